@@ -1,0 +1,5 @@
+pub mod CrcBits
+pub mod CrcTable
+pub mod CrcByte
+pub mod CrcFold
+pub mod CrcSize

@@ -1,0 +1,6 @@
+mod Spaces
+mod Splits
+mod Digits
+mod Signs
+mod Says
+mod Shows

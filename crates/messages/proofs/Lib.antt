@@ -1,0 +1,11 @@
+pub mod Coding
+pub mod Formed
+pub mod Fills
+pub mod News
+pub mod Written
+pub mod Deliveries
+pub mod Wholeness
+pub mod RoundTripBytes
+pub mod RoundTripRecords
+pub mod RoundTripSmall
+pub mod RoundTrip

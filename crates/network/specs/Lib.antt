@@ -1,0 +1,4 @@
+pub mod Said
+pub mod Refused
+pub mod Page
+pub mod Statements

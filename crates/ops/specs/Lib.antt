@@ -1,0 +1,5 @@
+pub mod Doc
+pub mod Version
+pub mod Layout
+pub mod Values
+pub mod Log

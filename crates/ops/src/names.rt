@@ -1,0 +1,40 @@
+ghost use mathlib.Core.Path.{_≡_};
+ghost use Prim.Native.Nat.{_<_};
+ghost use lib.Dec.{eqb};
+ghost use Rattle.std.specs.Numbers.{Checked};
+ghost use Rattle.std.specs.Options.{mapped};
+ghost use Rattle.ops.specs.Doc.{id-before, same-id};
+ghost use Rattle.ops.specs.Values.{desk-of, id-of};
+use crate::types::Desk;
+use crate::types::OpId;
+
+// How many desks there are.
+const DESKS: u64 = 32;
+
+impl Desk {
+    pub fn new(number: u64) -> Option<Desk>
+        ensures { λ r. ⌜ Checked (mapped desk-of r) (number < 32) number ⌝ }
+    {
+        if number < DESKS { Some(Desk { number: number as u8 }) } else { None }
+    }
+
+    pub fn is_same(self, other: Desk) -> bool
+        ensures { λ r. ⌜ r ≡ eqb (desk-of self) (desk-of other) ⌝ }
+    {
+        self.number == other.number
+    }
+}
+
+impl OpId {
+    pub fn is_newer_than(self, other: OpId) -> bool
+        ensures { λ r. ⌜ r ≡ id-before (id-of other) (id-of self) ⌝ }
+    {
+        other.n < self.n || other.n == self.n && other.desk.number < self.desk.number
+    }
+
+    pub fn is_same(self, other: OpId) -> bool
+        ensures { λ r. ⌜ r ≡ same-id (id-of self) (id-of other) ⌝ }
+    {
+        self.n == other.n && self.desk.is_same(other.desk)
+    }
+}

@@ -45,7 +45,7 @@ module _ (m : List ℕ) (d made len high : ℕ) (e : made ≡ low m (made-cell d
   unfolding has-room
   room-there a b c =
       and-from (ltb (low m (made-cell d)) 256) (ltb (kept m) 8192 && is-small (suc (highest-up-to 32 m))) (lt-ltb (low m (made-cell d)) 256 (omega arith))
-        (and-from (ltb (kept m) 8192) (is-small (suc (highest-up-to 32 m))) (lt-ltb (kept m) 8192 (omega arith)) (lt-ltb (suc (highest-up-to 32 m)) 4294967296 (omega arith)))
+      (and-from (ltb (kept m) 8192) (is-small (suc (highest-up-to 32 m))) (lt-ltb (kept m) 8192 (omega arith)) (lt-ltb (suc (highest-up-to 32 m)) 4294967296 (omega arith)))
 
   pub no-room-made : 256 ≤ made → has-room m d ≡ true → ⊥
   no-room-made h t = let p = room-parts t .0 in omega arith
@@ -81,15 +81,15 @@ module _ (m m₁ : Memory) (a b x y d : ℕ) (o : 0 < getD (held m) 0 0) (ed : d
   unfolding does does-said
   write-done t h =
       quiet-done m m₁ (said (write-under a b)) (appended (idle (held m)) (deed (held m) (me (held m)) (under a b)))
-        (write-small (held m) a b o r (ha .0) (hb .0) room-here ∙ ap (λ q. pick q 0 7) t) refl
-        (subst (λ l. Holds m m₁ l) (λ i. pick (t i) (appended (idle (held m)) (deed (held m) (ed i) (under (ha .1 i) (hb .1 i)))) (held m)) h)
+      (write-small (held m) a b o r (ha .0) (hb .0) room-here ∙ ap (λ q. pick q 0 7) t) refl
+      (subst (λ l. Holds m m₁ l) (λ i. pick (t i) (appended (idle (held m)) (deed (held m) (ed i) (under (ha .1 i) (hb .1 i)))) (held m)) h)
 
   pub add-done : r ≡ true → Holds m m₁ (pick r (appended (idle (held m)) (deed (held m) d (added x y))) (held m)) → Quiet (step-own (held m) (said (add-to a b))) Done m m₁
   unfolding does does-said
   add-done t h =
       quiet-done m m₁ (said (add-to a b)) (appended (idle (held m)) (deed (held m) (me (held m)) (added a b)))
-        (add-small (held m) a b o r (ha .0) (hb .0) room-here ∙ ap (λ q. pick q 0 7) t) refl
-        (subst (λ l. Holds m m₁ l) (λ i. pick (t i) (appended (idle (held m)) (deed (held m) (ed i) (added (ha .1 i) (hb .1 i)))) (held m)) h)
+      (add-small (held m) a b o r (ha .0) (hb .0) room-here ∙ ap (λ q. pick q 0 7) t) refl
+      (subst (λ l. Holds m m₁ l) (λ i. pick (t i) (appended (idle (held m)) (deed (held m) (ed i) (added (ha .1 i) (hb .1 i)))) (held m)) h)
 
   quiet-at : (ev : Event) → refusal (held m) ev ≡ 7 → (k : doc.Kind) → r ≡ false → Holds m m₁ (pick r (appended (idle (held m)) (deed (held m) d k)) (held m)) → Quiet (step-own (held m) ev) (No 7) m m₁
   quiet-at ev e k t h =
@@ -109,28 +109,28 @@ module _ (m m₁ : Memory) (a x : ℕ) (row : List ℕ) (o : 0 < getD (held m) 0
   unfolding does does-said
   word-none e =
       shows-none m m₁ (said (show-key a)) (set (set (held m) 1 1) 2 a) row (key-small-shown (held m) a o (h .0))
-        (ap (λ s. says (set (set (held m) 1 1) 2 a) (shows s)) (sym (e ∙ ap (word-at (ops-of (held m))) (h .1)))) k
+      (ap (λ s. says (set (set (held m) 1 1) 2 a) (shows s)) (sym (e ∙ ap (word-at (ops-of (held m))) (h .1)))) k
 
   pub word-one : (w v : ℕ) → 8192 ≤ length row → w ∷ [] ≡ word-at (ops-of (held m)) x → v ≡ w → Showing (step-own (held m) (said (show-key a))) (Shows 1) m m₁ row (set row 0 v)
   unfolding does does-said
   word-one w v long e f =
       shows-one m m₁ (said (show-key a)) (set (set (held m) 1 1) 2 a) row v long (key-small-shown (held m) a o (h .0))
-        (ap (λ s. says (set (set (held m) 1 1) 2 a) (shows s)) (sym (ap (λ z. z ∷ []) f ∙ (e ∙ ap (word-at (ops-of (held m))) (h .1))))) k
+      (ap (λ s. says (set (set (held m) 1 1) 2 a) (shows s)) (sym (ap (λ z. z ∷ []) f ∙ (e ∙ ap (word-at (ops-of (held m))) (h .1))))) k
 
 -- GOING ON
 pub goes-done : (m : Memory) (row : List ℕ) → 0 < getD (held m) 0 0 → (getD (held m) 1 0 ≡ 1 → ⊥) → Showing (step-own (held m) next) Done m m row row
 unfolding does goes-on
 goes-done m row o h =
     showing _ _ _ _ row
-      (quiet-done m m next (held m) (next-well (held m) o)
-        (ap (λ b. pick b (says (idle (held m)) (shows (count-at (ops-of (held m)) (low (held m) key-cell) ∷ []))) (says (held m) done)) (ne-eqb (getD (held m) 1 0) 1 h)) (record { after = refl; same = refl }))
+    (quiet-done m m next (held m) (next-well (held m) o)
+    (ap (λ b. pick b (says (idle (held m)) (shows (count-at (ops-of (held m)) (low (held m) key-cell) ∷ []))) (says (held m) done)) (ne-eqb (getD (held m) 1 0) 1 h)) (record { after = refl; same = refl }))
 
 pub goes-tally : (m m₁ : Memory) (row : List ℕ) (n : ℕ) → 8192 ≤ length row → 0 < getD (held m) 0 0 → getD (held m) 1 0 ≡ 1 → n ≡ count-at (ops-of (held m)) (low (held m) key-cell) → Holds m m₁ (idle (held m)) →
     Showing (step-own (held m) next) (Shows 1) m m₁ row (set row 0 n)
 unfolding does goes-on
 goes-tally m m₁ row n long o e f h =
     shows-one m m₁ next (idle (held m)) row n long (next-well (held m) o)
-      (λ i. pick (eq-eqb (getD (held m) 1 0) 1 e i) (says (idle (held m)) (shows (sym f i ∷ []))) (says (held m) done)) h
+    (λ i. pick (eq-eqb (getD (held m) 1 0) 1 e i) (says (idle (held m)) (shows (sym f i ∷ []))) (says (held m) done)) h
 
 -- LETTERS
 pub sent : (m m₁ : Memory) (a d p n : ℕ) (out out₁ : List ℕ) → 0 < getD (held m) 0 0 → d ≡ me (held m) → ((a < 32) × (a ≡ d → ⊥)) × (p ≡ a) → Holds m m₁ (idle (held m)) →
@@ -138,7 +138,7 @@ pub sent : (m m₁ : Memory) (a d p n : ℕ) (out out₁ : List ℕ) → 0 < get
 unfolding does
 sent m m₁ a d p n out out₁ o e h k f g =
     sends-it m m₁ (letter-to a) (idle (held m)) (letter-for (held m) d p) out out₁ n (letter-well (held m) a d o e (h .0))
-      (λ i. says (idle (held m)) (sends (letter-for (held m) (sym e i) (sym (h .1) i)))) k f g
+    (λ i. says (idle (held m)) (sends (letter-for (held m) (sym e i) (sym (h .1) i)))) k f g
 
 module _ (m m₁ : Memory) (a d p : ℕ) (bs : List ℕ) (r : Bool) (o : 0 < getD (held m) 0 0) (e : d ≡ me (held m)) (h : ((a < 32) × (a ≡ d → ⊥)) × (p ≡ a)) (er : r ≡ is-letter p d bs)
     (k : Holds m m₁ (pick r (received p bs (held m)) (held m))) where
@@ -150,7 +150,7 @@ module _ (m m₁ : Memory) (a d p : ℕ) (bs : List ℕ) (r : Bool) (o : 0 < get
   heard-well m₂ t l =
       let g : held m₁ ≡ received a bs (held m) = k .after ∙ (λ i. pick (t i) (received (h .1 i) bs (held m)) (held m)) in
       quiet-done m m₂ (hears a bs) (idle (received a bs (held m))) (hears-by (held m) a d bs r o e (h .0) letter-here ∙ ap (λ q. pick q 0 1) t) refl
-        (record { after = l .after ∙ ap idle g; same = l .same ∙ k .same })
+      (record { after = l .after ∙ ap idle g; same = l .same ∙ k .same })
 
   pub heard-not : r ≡ false → Quiet (step-own (held m) (hears a bs)) (No 1) m m₁
   heard-not t =

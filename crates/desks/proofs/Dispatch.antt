@@ -92,11 +92,13 @@ step-unknown m k a b n l row out fits h h₀ h₃ h₄ h₆ h₇ h₈ h₉ e cel
   where
     ev : Event
     ev = event-of k a b l
+
     told : (j : ℕ) → n ≡ suc j → refusal m ev ≡ suc j → Step-says m k a b l row out (step-fits m k l row out) (No n) cells row out
     told j p q =
         let s = refuses m ev j q in
         whole m k a b l row out fits ev refl (No n) cells row out (back ∙ sym (ap (λ (s : Step). s .memory) s))
-          (unfold Act-told in (subst (λ (s : Step). Act-told (s .act) (No n) row row out out) (sym s) (ap No p, refl, refl)))
+        (unfold Act-told in (subst (λ (s : Step). Act-told (s .act) (No n) row row out out) (sym s) (ap No p, refl, refl)))
+
     go : (t : Bool) → n ≡ pick t 2 3 → refusal m ev ≡ pick t 2 3 → Step-says m k a b l row out (step-fits m k l row out) (No n) cells row out
     go true p q = told 1 p q
     go false p q = told 2 p q

@@ -12,19 +12,26 @@ use ops::Memory;
 mod parts;
 
 // How many cells a desk has.
-pub const MEMORY_SIZE: usize = 50_272;
+pub const MEMORY_SIZE: usize = ops::layout::SIZE;
 
 // How many bytes a letter has at most, and how many numbers are shown at most.
 pub const MOST_BYTES: usize = 4096;
+
 pub const MOST_SHOWN: usize = 8192;
 
 // The kinds of what a machine is told.
 const OPEN: u64 = 0;
+
 const WRITE: u64 = 3;
+
 const ADD: u64 = 4;
+
 const SHOW_KEY: u64 = 6;
+
 const SEND: u64 = 7;
+
 const READ: u64 = 8;
+
 const GO_ON: u64 = 9;
 
 #[derive(Clone, Copy)]
@@ -94,7 +101,15 @@ fn fits(memory: &[u64], kind: u64, letter: &[u8], row: &[u64], out: &[u8]) -> bo
 }
 
 // One step: the machine is told one thing, and does one act.
-pub fn step(memory: &mut [u64], kind: u64, a: u64, b: u64, letter: &[u8], row: &mut [u64], out: &mut [u8]) -> Told
+pub fn step(
+    memory: &mut [u64],
+    kind: u64,
+    a: u64,
+    b: u64,
+    letter: &[u8],
+    row: &mut [u64],
+    out: &mut [u8],
+) -> Told
     ensures { λ r. ⌜ Step-says (now (memory .entry)) kind a b (now (letter .entry)) (now (row .entry)) (now (out .entry)) (step-fits (now (memory .entry)) kind (now (letter .entry)) (now (row .entry)) (now (out .entry))) r (now (memory .exit)) (now (row .exit)) (now (out .exit)) ⌝ }
 {
     if !fits(memory, kind, letter, row, out) {

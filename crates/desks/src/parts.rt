@@ -6,6 +6,7 @@ ghost use lib.ListN.{length, getD};
 ghost use Rattle.std.specs.Numbers.{Checked};
 ghost use Rattle.std.specs.Options.{mapped};
 ghost use Rattle.ops.specs.Doc.{pick, id, write-under, add-to, show-key};
+ghost use Rattle.ops.specs.Layout.{desk-cell};
 ghost use Rattle.ops.specs.Log.{appended, highest-up-to};
 ghost use Rattle.ops.specs.Values.{desk-of, id-of, kind-of, held, Holds};
 ghost use Rattle.desks.specs.Run.{opens, said, letter-to, hears, next};
@@ -17,28 +18,35 @@ use ops::Kind;
 use ops::Memory;
 use ops::Op;
 use ops::OpId;
+use ops::layout::CAPACITY;
+use ops::layout::DESK;
+use ops::layout::KEY;
+use ops::layout::PENDING;
 
-// Cells of the machine's own; the others are the log's and the letters'.
-const DESK: usize = 0;
-const PENDING: usize = 1;
-const KEY: usize = 2;
-
-// How many operations a desk may do, and how many the log holds.
+// How many operations a desk may do.
 const MOST_DEEDS: u32 = 256;
-const CAPACITY: usize = 8192;
 
 // The numbers of refusals.
 const MALFORMED: u64 = 1;
+
 const UNKNOWN: u64 = 2;
+
 const CLOSED: u64 = 3;
+
 const NO_ROOM: u64 = 7;
 
 // Which desk this is, if it is open.
 fn this_desk(memory: &Memory) -> Option<Desk>
-    ensures { λ r. ⌜ Checked (mapped desk-of r) (0 < getD (held (now (memory .entry))) 0 0) (me (held (now (memory .entry)))) ⌝ }
+    ensures { λ r. ⌜ Checked (mapped desk-of r) (0 < getD (held (now (memory .entry))) desk-cell 0) (me (held (now (memory .entry)))) ⌝ }
 {
     let number = memory.cells[DESK];
-    if number == 0 { None } else { Some(Desk { number: ((number - 1) % 32) as u8 }) }
+    if number == 0 {
+        None
+    } else {
+        Some(Desk {
+            number: ((number - 1) % 32) as u8,
+        })
+    }
 }
 
 // Another desk, by its number.
@@ -53,7 +61,11 @@ fn peer_of(desk: Desk, a: u64) -> Option<Desk>
 fn narrow(a: u64) -> Option<u32>
     ensures { λ r. ⌜ Checked r (a < 4294967296) a ⌝ }
 {
-    if a < 4_294_967_296 { Some(a as u32) } else { None }
+    if a < 4_294_967_296 {
+        Some(a as u32)
+    } else {
+        None
+    }
 }
 
 // A new operation's id, if this desk may do another.
@@ -121,7 +133,11 @@ pub fn write(memory: &mut Memory, a: u64, b: u64) -> Told
     let Some(word) = narrow(b) else {
         return Told::No(MALFORMED);
     };
-    if perform(memory, desk, Kind::Write { key, word }) { Told::Done } else { Told::No(NO_ROOM) }
+    if perform(memory, desk, Kind::Write { key, word }) {
+        Told::Done
+    } else {
+        Told::No(NO_ROOM)
+    }
 }
 
 // Adds to a key's tally.
@@ -137,7 +153,11 @@ pub fn add(memory: &mut Memory, a: u64, b: u64) -> Told
     let Some(amount) = narrow(b) else {
         return Told::No(MALFORMED);
     };
-    if perform(memory, desk, Kind::Add { key, amount }) { Told::Done } else { Told::No(NO_ROOM) }
+    if perform(memory, desk, Kind::Add { key, amount }) {
+        Told::Done
+    } else {
+        Told::No(NO_ROOM)
+    }
 }
 
 // Shows the word under a key; its tally comes next.

@@ -120,6 +120,7 @@ fn read(
 fn letter_in(rt: &LibcRuntime, file: &str) -> io::Result<Vec<u8>> {
     let mut letter = Vec::new(rt.alloc());
     let file = File::open(rt, file)?;
-    file.take(desks::MOST_BYTES as u64 + 1).read_to_end(&mut letter)?;
+    file.take(desks::MOST_BYTES as u64 + 1)
+        .read_to_end(&mut letter)?;
     Ok(letter)
 }

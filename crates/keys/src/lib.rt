@@ -8,10 +8,10 @@ ghost use Rattle.ops.specs.Doc.{count-of, word-at, count-at};
 ghost use Rattle.ops.specs.Log.{ops-of};
 ghost use Rattle.ops.specs.Values.{kind-of, op-of, held};
 ghost use Rattle.keys.specs.Newest.{found-op, newer-under};
+use crate::found::Found;
 use ops::Kind;
 use ops::Memory;
 use ops::Op;
-use crate::found::Found;
 
 pub mod found;
 
@@ -20,13 +20,7 @@ fn added_to(kind: Kind, key: u32) -> u32
     ensures { λ r. ⌜ r ≡ count-of key (kind-of kind) ⌝ }
 {
     match kind {
-        Kind::Add { key: at, amount } => {
-            if at == key {
-                amount
-            } else {
-                0
-            }
-        }
+        Kind::Add { key: at, amount } => { if at == key { amount } else { 0 } }
         _ => 0,
     }
 }
@@ -58,7 +52,11 @@ fn newer_word(best: Option<Found>, op: Op, key: u32) -> Option<Found>
     let Some(found) = best else {
         return here;
     };
-    if found.id.is_newer_than(op.id) { best } else { here }
+    if found.id.is_newer_than(op.id) {
+        best
+    } else {
+        here
+    }
 }
 
 // The newest word under a key, if any was written.

@@ -45,7 +45,7 @@ pub fill-front : (hs bs out mid last : List ℕ) (n : ℕ) → length hs ≡ n �
 fill-front hs bs out mid last n l h e f =
     let t = length-front out n h in
     let a : drop n ((take n out ++ bs) ++ drop (length (take n out ++ bs)) out) ≡ bs ++ drop (length (take n out ++ bs)) out =
-        rw append-assoc (drop-at (take n out) (bs ++ drop (length (take n out ++ bs)) out) n t) in
+    rw append-assoc (drop-at (take n out) (bs ++ drop (length (take n out ++ bs)) out) n t) in
     let b : length (take n out ++ bs) ≡ length (hs ++ bs) = rw (length-append, length-append) (omega arith) in
     f ∙ ap (λ (k : ℕ). hs ++ drop k mid) l ∙ ap (λ (xs : List ℕ). hs ++ drop n xs) e ∙ ap (λ (xs : List ℕ). hs ++ xs) a
     ∙ ap (λ (k : ℕ). hs ++ (bs ++ drop k out)) b ∙ sym (append-assoc hs bs (drop (length (hs ++ bs)) out))

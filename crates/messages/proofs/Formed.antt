@@ -45,6 +45,7 @@ pub records-not : (bs : List ℕ) (k n : ℕ) → false ≡ is-record bs (132 + 
 unfolding are-records
 records-not bs k zero b h = absurd (omega arith)
 records-not bs k (suc n) b h =
-    elim (cases-lt k n)
-      [ inl l ↦ sym (and-left (are-records n bs) (is-record bs (132 + n * 16)) (sym (records-not bs k n b l)))
-      | inr l ↦ let e : k ≡ n = omega arith in sym (and-right (are-records n bs) (is-record bs (132 + n * 16)) (ap (λ (i : ℕ). is-record bs (132 + i * 16)) (sym e) ∙ sym b)) ]
+    elim (cases-lt k n) [
+      | inl l ↦ sym (and-left (are-records n bs) (is-record bs (132 + n * 16)) (sym (records-not bs k n b l)))
+      | inr l ↦ let e : k ≡ n = omega arith in sym (and-right (are-records n bs) (is-record bs (132 + n * 16)) (ap (λ (i : ℕ). is-record bs (132 + i * 16)) (sym e) ∙ sym b))
+    ]

@@ -41,9 +41,10 @@ firsts-split : (j k : ℕ) (m : List ℕ) → (ys : List doc.Op) × (firsts (k +
 firsts-split zero k m = ([], ap (λ (i : ℕ). firsts i m) (add-zero k) ∙ sym (append-nil (firsts k m)))
 firsts-split (suc j) k m =
     let r = firsts-split j k m in
-    let e : k + suc j ≡ (k + j) + 1 = omega arith in
-    (r .0 ++ op-at m (k + j) ∷ [],
-     ap (λ (i : ℕ). firsts i m) e ∙ firsts-more (k + j) m ∙ ap (λ (xs : List doc.Op). xs ++ op-at m (k + j) ∷ []) (r .1) ∙ append-assoc (firsts k m) (r .0) (op-at m (k + j) ∷ []))
+    let e : k + suc j ≡ (k + j) + 1 = omega arith in (
+      r .0 ++ op-at m (k + j) ∷ [],
+      ap (λ (i : ℕ). firsts i m) e ∙ firsts-more (k + j) m ∙ ap (λ (xs : List doc.Op). xs ++ op-at m (k + j) ∷ []) (r .1) ∙ append-assoc (firsts k m) (r .0) (op-at m (k + j) ∷ []),
+    )
 
 -- the news for a peer among the first so many operations
 unfoldable pub news-in : ℕ → List ℕ → ℕ → List doc.Op
@@ -111,7 +112,7 @@ module _ (m out : List ℕ) (p k at : ℕ) (o : doc.Op) (count : ℕ) (now : Lis
       let bs : List ℕ = take at out ++ flat record-bytes (news-in k m p) in
       let a : at + count * 16 ≡ length bs = rw (length-append, length-flat (news-in k m p), length-front out at h, ← (s .0)) in
       let b : paste now (at + count * 16) (record-bytes o) 16 ≡ filled (bs ++ record-bytes o) out =
-          rw (s .1) (fill-more bs (record-bytes o) out 16 (at + count * 16) a (sym (length-record o))) in
+      rw (s .1) (fill-more bs (record-bytes o) out 16 (at + count * 16) a (sym (length-record o))) in
       let u : bs ++ record-bytes o ≡ take at out ++ flat record-bytes (news-in k m p ++ o ∷ []) = rw (flat-more, append-assoc) in
       rw i (rw length-append (omega arith), q ∙ b ∙ ap (λ (xs : List ℕ). filled xs out) u)
 

@@ -106,10 +106,10 @@ module _ (from for : ℕ) (v : ℕ → ℕ) (ops : List doc.Op) where
   all-bytes-letter hf ht hl =
       ap (every (λ b. ltb b 256)) letter-parts
       ∙ bytes-cons 1 _ (omega arith)
-          (bytes-cons from _ (omega arith)
-              (bytes-cons for _ (omega arith)
-                  (bytes-cons (length ops) _ (omega arith)
-                      (bytes-append (vector-bytes 32 v) _ (bytes-vector 32 v) (bytes-append (flat record-bytes ops) _ (bytes-records ops) (bytes-four _ [] bytes-none))))))
+      (bytes-cons from _ (omega arith)
+      (bytes-cons for _ (omega arith)
+      (bytes-cons (length ops) _ (omega arith)
+      (bytes-append (vector-bytes 32 v) _ (bytes-vector 32 v) (bytes-append (flat record-bytes ops) _ (bytes-records ops) (bytes-four _ [] bytes-none))))))
 
   records-letter : ((o : doc.Op) → In o ops → Small-op o) → records (length ops) (letter-of from for v ops) ≡ ops
   records-letter small =
@@ -129,7 +129,7 @@ is-letter-from : (from for n : ℕ) (bs : List ℕ) → byte bs 3 ≡ n → leng
 unfolding is-letter
 is-letter-from from for n bs k l v f t r s =
     and-from _ _ (eq-eqb _ _ (l ∙ ap (λ (m : ℕ). 136 + m * 16) (sym k)))
-        (and-from _ _ (eq-eqb _ _ v) (and-from _ _ (eq-eqb _ _ f) (and-from _ _ (eq-eqb _ _ t) (and-from _ _ (ap (λ (m : ℕ). are-records m bs) k ∙ r) s))))
+    (and-from _ _ (eq-eqb _ _ v) (and-from _ _ (eq-eqb _ _ f) (and-from _ _ (eq-eqb _ _ t) (and-from _ _ (ap (λ (m : ℕ). are-records m bs) k ∙ r) s))))
 
 letter-names : (from for : ℕ) (bs : List ℕ) → is-letter from for bs ≡ true → (byte bs 1 ≡ from) × (byte bs 2 ≡ for)
 unfolding is-letter
@@ -144,14 +144,15 @@ letter-names from for bs h =
 pub decoded : Round-trip
 decoded from for v ops hf ht hl hv ho =
     let n = byte-3 from for v ops hl in
-    record
-      { accepted =
+    record {
+      accepted =
           is-letter-from from for (length ops) _ n (length-letter from for v ops) (byte-0 from for v ops) (byte-1 from for v ops hf) (byte-2 from for v ops ht)
-              (are-records-letter from for v ops ho) (is-sealed-letter from for v ops);
-        operations = ap (λ (k : ℕ). records k (letter-of from for v ops)) n ∙ records-letter from for v ops ho;
-        vector = entries from for v ops hv;
-        long = length-letter from for v ops;
-        bytes = all-bytes-letter from for v ops hf ht hl }
+          (are-records-letter from for v ops ho) (is-sealed-letter from for v ops);
+      operations = ap (λ (k : ℕ). records k (letter-of from for v ops)) n ∙ records-letter from for v ops ho;
+      vector = entries from for v ops hv;
+      long = length-letter from for v ops;
+      bytes = all-bytes-letter from for v ops hf ht hl;
+    }
 
 pub only-for : Only-for
 only-for from for v ops hf ht hl hv ho from₁ for₁ h =

@@ -20,8 +20,8 @@ number-back n h =
     let f : n / 65536 / 256 ≡ n / 16777216 = div-div-eq-div-mul n 65536 256 in
     let g : n / 16777216 % 256 ≡ n / 16777216 = omega arith in
     rw g
-        (four-back n (n / 256) (n / 65536) (n / 16777216) _ _ _ (div-add-mod' n 256)
-            (rw e at (div-add-mod' (n / 256) 256)) (rw f at (div-add-mod' (n / 65536) 256)))
+    (four-back n (n / 256) (n / 65536) (n / 16777216) _ _ _ (div-add-mod' n 256)
+    (rw e at (div-add-mod' (n / 256) 256)) (rw f at (div-add-mod' (n / 65536) 256)))
 
 pub twice : (n : ℕ) → n % 256 % 256 ≡ n % 256
 twice n = omega arith
@@ -48,11 +48,12 @@ unfolding vector-bytes
 vector-there zero v pre rest p d e h small = absurd (omega arith)
 vector-there (suc k) v pre rest p d e h small =
     ap (λ (bs : List ℕ). number-at (pre ++ bs) (p + d * 4)) (append-assoc (vector-bytes k v) (four (v k)) rest)
-    ∙ elim (cases-lt d k)
-        [ inl l ↦ vector-there k v pre (four (v k) ++ rest) p d e l (λ j i. small j (omega arith))
-        | inr g ↦
-            let q : d ≡ k = omega arith in
-            let l : length (pre ++ vector-bytes k v) ≡ p + d * 4 = rw q (length-append pre (vector-bytes k v) ∙ ap₂ _+_ e (length-vector k v)) in
-            ap (λ (bs : List ℕ). number-at bs (p + d * 4)) (sym (append-assoc pre (vector-bytes k v) (four (v k) ++ rest)))
-            ∙ number-there (pre ++ vector-bytes k v) (v k) rest (p + d * 4) l (small k (omega arith))
-            ∙ ap v (sym q) ]
+    ∙ elim (cases-lt d k) [
+      | inl l ↦ vector-there k v pre (four (v k) ++ rest) p d e l (λ j i. small j (omega arith))
+      | inr g ↦
+          let q : d ≡ k = omega arith in
+          let l : length (pre ++ vector-bytes k v) ≡ p + d * 4 = rw q (length-append pre (vector-bytes k v) ∙ ap₂ _+_ e (length-vector k v)) in
+          ap (λ (bs : List ℕ). number-at bs (p + d * 4)) (sym (append-assoc pre (vector-bytes k v) (four (v k) ++ rest)))
+          ∙ number-there (pre ++ vector-bytes k v) (v k) rest (p + d * 4) l (small k (omega arith))
+          ∙ ap v (sym q)
+    ]

@@ -76,9 +76,10 @@ record-at : (ops : List doc.Op) (k : ℕ) (d : doc.Op) (pre rest : List ℕ) (p 
     (more : List ℕ) × (drop (p + k * 16) (pre ++ (flat record-bytes ops ++ rest)) ≡ record-bytes (getD ops k d) ++ more)
 unfolding flat
 record-at [] k d pre rest p h e = absurd (omega arith)
-record-at (o ∷ os) zero d pre rest p h e =
-    (flat record-bytes os ++ rest,
-     drop-at pre ((record-bytes o ++ flat record-bytes os) ++ rest) (p + 0 * 16) (omega arith) ∙ append-assoc (record-bytes o) (flat record-bytes os) rest)
+record-at (o ∷ os) zero d pre rest p h e = (
+  flat record-bytes os ++ rest,
+  drop-at pre ((record-bytes o ++ flat record-bytes os) ++ rest) (p + 0 * 16) (omega arith) ∙ append-assoc (record-bytes o) (flat record-bytes os) rest,
+)
 record-at (o ∷ os) (suc k) d pre rest p h e =
     let l : length (pre ++ record-bytes o) ≡ p + 16 = length-append pre (record-bytes o) ∙ ap₂ _+_ e (length-record o) in
     let r = record-at os k d (pre ++ record-bytes o) rest (p + 16) (omega arith) l in

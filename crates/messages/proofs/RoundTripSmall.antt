@@ -29,7 +29,7 @@ bytes-append (a ∷ as₁) bs h k =
 pub bytes-four : (n : ℕ) (bs : List ℕ) → all-bytes bs ≡ true → all-bytes (four n ++ bs) ≡ true
 bytes-four n bs h =
     bytes-cons (n % 256) _ (omega arith)
-        (bytes-cons (n / 256 % 256) _ (omega arith) (bytes-cons (n / 65536 % 256) _ (omega arith) (bytes-cons (n / 16777216 % 256) bs (omega arith) h)))
+    (bytes-cons (n / 256 % 256) _ (omega arith) (bytes-cons (n / 65536 % 256) _ (omega arith) (bytes-cons (n / 16777216 % 256) bs (omega arith) h)))
 
 pub bytes-none : all-bytes [] ≡ true
 unfolding every
@@ -43,8 +43,8 @@ bytes-vector (suc k) v = bytes-append (vector-bytes k v) (four (v k)) (bytes-vec
 bytes-parts : (n d k a x y : ℕ) → k < 256 → all-bytes (four n ++ (d % 256 ∷ k ∷ a % 256 ∷ 0 ∷ four x ++ four y)) ≡ true
 bytes-parts n d k a x y h =
     bytes-four n _
-        (bytes-cons (d % 256) _ (omega arith)
-            (bytes-cons k _ h (bytes-cons (a % 256) _ (omega arith) (bytes-cons 0 _ (omega arith) (bytes-four x (four y) (bytes-four y [] bytes-none))))))
+    (bytes-cons (d % 256) _ (omega arith)
+    (bytes-cons k _ h (bytes-cons (a % 256) _ (omega arith) (bytes-cons 0 _ (omega arith) (bytes-four x (four y) (bytes-four y [] bytes-none))))))
 
 bytes-kind : (k : doc.Kind) (n d : ℕ) → all-bytes (bytes-of k n d) ≡ true
 unfolding bytes-of

@@ -25,9 +25,10 @@ kind-by k a x y = pick (eqb k 0) (put-in (id x a) y) (pick (eqb k 1) (struck (id
 
 unfoldable pub op-from : List ℕ → ℕ → doc.Op
 op-from bs p =
-    record
-      { name = id (number-at bs p) (byte bs (p + 4) % 32);
-        kind = kind-by (byte bs (p + 5)) (byte bs (p + 6) % 32) (number-at bs (p + 8)) (number-at bs (p + 12)) }
+    record {
+      name = id (number-at bs p) (byte bs (p + 4) % 32);
+      kind = kind-by (byte bs (p + 5)) (byte bs (p + 6) % 32) (number-at bs (p + 8)) (number-at bs (p + 12));
+    }
 
 unfoldable pub is-record : List ℕ → ℕ → Bool
 is-record bs p = ltb (byte bs (p + 4)) 32 && (ltb (byte bs (p + 5)) 4 && ltb (byte bs (p + 6)) 32)

@@ -6,20 +6,20 @@ ghost use lib.ListN.{set};
 ghost use Rattle.ops.specs.Layout.{memory-size, heard-cell};
 ghost use Rattle.ops.specs.Values.{desk-of, held, Holds};
 ghost use Rattle.messages.specs.Letter.{heard};
-use crate::layout::DESKS;
 use ops::Desk;
 use ops::Memory;
 use ops::Op;
+use ops::layout::DESKS;
+use ops::layout::HEARD;
 
-// Where the memory keeps them. Entries are below the limit; of whatever else stands in a cell, the low 32 bits are read.
-const HEARD: usize = 96;
+// Entries are below this; of whatever else stands in a cell, the low 32 bits are read.
 const LIMIT: u64 = 4_294_967_296;
 
 fn heard_cell(peer: Desk, desk: Desk) -> usize
     ensures value { λ r. ⌜ r ≡ heard-cell (desk-of peer) (desk-of desk) ⌝ }
     ensures bound { λ r. ⌜ r < memory-size ⌝ }
 {
-    HEARD + peer.number as usize * DESKS as usize + desk.number as usize
+    HEARD + peer.number as usize * DESKS + desk.number as usize
 }
 
 // The highest number of a desk's operations that a peer is known to know.

@@ -12,7 +12,6 @@ ghost use Rattle.messages.specs.Records.{record-bytes, records};
 ghost use Rattle.messages.specs.Letter.{news, versions, vector-bytes, letter-for, filled, Wrote, is-sealed, is-letter, noted, deliver, delivered, received};
 use crate::bytes::number_at;
 use crate::bytes::put_number;
-use checksums::crc32;
 use crate::heard::is_news;
 use crate::heard::note;
 use crate::layout::ADDRESSEE;
@@ -30,6 +29,7 @@ use crate::layout::SENDER;
 use crate::records::are_records;
 use crate::records::put_record;
 use crate::records::record_at;
+use checksums::crc32;
 use ops::Desk;
 use ops::Memory;
 use ops::Op;
@@ -51,7 +51,11 @@ fn write_versions(memory: &Memory, out: &mut [u8])
     ensures { λ _. ⌜ now (out .exit) ≡ filled (take 4 (now (out .entry)) ++ vector-bytes 32 (versions (held (now (memory .entry))))) (now (out .entry)) ⌝ }
 {
     for number in 0..DESKS {
-        put_number(out, HEAD + number as usize * NUMBER, memory.version(Desk { number }));
+        put_number(
+            out,
+            HEAD + number as usize * NUMBER,
+            memory.version(Desk { number }),
+        );
     }
 }
 
@@ -143,7 +147,12 @@ fn note_versions(memory: &mut Memory, from: Desk, letter: &[u8])
     ensures { λ _. ⌜ Holds (now (memory .entry)) (now (memory .exit)) (noted 32 (desk-of from) (now (letter .entry)) (held (now (memory .entry)))) ⌝ }
 {
     for number in 0..DESKS {
-        note(memory, from, Desk { number }, number_at(letter, HEAD + number as usize * NUMBER));
+        note(
+            memory,
+            from,
+            Desk { number },
+            number_at(letter, HEAD + number as usize * NUMBER),
+        );
     }
 }
 

@@ -16,16 +16,24 @@ use ops::OpId;
 
 // Where a record has what follows its number: the operation's desk, its kind, the desk of the operation that it is about, and two values.
 const DESK: usize = 4;
+
 const KIND: usize = 5;
+
 const ABOUT: usize = 6;
+
 const FIRST: usize = 8;
+
 const SECOND: usize = 12;
 
 // The kinds of operations, by number.
 const INSERT: u8 = 0;
+
 const DELETE: u8 = 1;
+
 const WRITE: u8 = 2;
+
 const ADD: u8 = 3;
+
 const KINDS: u8 = 4;
 
 // The bytes of a record's parts.
@@ -35,7 +43,24 @@ fn record_of(id: OpId, kind: u8, about: u8, x: u32, y: u32) -> [u8; RECORD]
     let n = id.n.to_le_bytes();
     let x = x.to_le_bytes();
     let y = y.to_le_bytes();
-    [n[0], n[1], n[2], n[3], id.desk.number, kind, about, 0, x[0], x[1], x[2], x[3], y[0], y[1], y[2], y[3]]
+    [
+        n[0],
+        n[1],
+        n[2],
+        n[3],
+        id.desk.number,
+        kind,
+        about,
+        0,
+        x[0],
+        x[1],
+        x[2],
+        x[3],
+        y[0],
+        y[1],
+        y[2],
+        y[3],
+    ]
 }
 
 // An operation's record.
@@ -64,12 +89,25 @@ pub fn record_at(letter: &[u8], at: usize) -> Op
     requires { ⌜ at + 16 ≤ length (now letter) ⌝ }
     ensures { λ r. ⌜ op-of r ≡ op-from (now (letter .entry)) at ⌝ }
 {
-    let id = OpId { n: number_at(letter, at), desk: Desk { number: letter[at + DESK] % DESKS } };
+    let id = OpId {
+        n: number_at(letter, at),
+        desk: Desk {
+            number: letter[at + DESK] % DESKS,
+        },
+    };
     let x = number_at(letter, at + FIRST);
     let y = number_at(letter, at + SECOND);
-    let target = OpId { n: x, desk: Desk { number: letter[at + ABOUT] % DESKS } };
+    let target = OpId {
+        n: x,
+        desk: Desk {
+            number: letter[at + ABOUT] % DESKS,
+        },
+    };
     let kind = match letter[at + KIND] {
-        INSERT => Kind::Insert { after: target, sign: y },
+        INSERT => Kind::Insert {
+            after: target,
+            sign: y,
+        },
         DELETE => Kind::Delete { target },
         WRITE => Kind::Write { key: x, word: y },
         _ => Kind::Add { key: x, amount: y },

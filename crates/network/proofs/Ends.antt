@@ -18,8 +18,8 @@ version-last log o h =
     let a = version-above (log ++ o ∷ []) o (in-right log (o ∷ []) o (inl refl)) in
     ⊎-elim (λ z. omega arith)
     (λ r. ⊎-elim
-        (λ k. let b : r .0 .name .n ≤ version log (o .name .who) = subst (λ (d : ℕ). r .0 .name .n ≤ version log d) (r .2) (version-above log (r .0) k) in absurd (omega (arith, r .3)))
-        (λ k. sym (r .3) ∙ ap (λ (q : Op). q .name .n) (in-only o (r .0) k)) (in-append log (o ∷ []) (r .0) (r .1)))
+    (λ k. let b : r .0 .name .n ≤ version log (o .name .who) = subst (λ (d : ℕ). r .0 .name .n ≤ version log d) (r .2) (version-above log (r .0) k) in absurd (omega (arith, r .3)))
+    (λ k. sym (r .3) ∙ ap (λ (q : Op). q .name .n) (in-only o (r .0) k)) (in-append log (o ∷ []) (r .0) (r .1)))
     (version-of (log ++ o ∷ []) (o .name .who))
 
 pub version-last-other : (log : List Op) (o : Op) (d : ℕ) → (o .name .who ≡ d → ⊥) → version (log ++ o ∷ []) d ≡ version log d

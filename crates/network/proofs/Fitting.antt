@@ -54,7 +54,7 @@ unfolding with-op
 every-with-op m k o h s l =
     every-set _ (made-cell (o .name .who)) (low m (made-cell (o .name .who)) + 1)
     (every-set _ (version-cell (o .name .who)) (o .name .n)
-        (every-set (sets m (slot k) (cells-of o)) length-cell (k + 1) (every-sets (cells-of o) m (slot k) h (every-cells o s)) (omega arith)) (wide (o .name .n) (s .0)))
+    (every-set (sets m (slot k) (cells-of o)) length-cell (k + 1) (every-sets (cells-of o) m (slot k) h (every-cells o s)) (omega arith)) (wide (o .name .n) (s .0)))
     (low-wide (getD m (made-cell (o .name .who)) 0))
 
 pub every-appended : (m : List ℕ) (o : Op) → every fits m ≡ true → Small-op o → every fits (appended m o) ≡ true

@@ -42,11 +42,11 @@ noted-at zero p bs m d l h = absurd (omega arith)
 noted-at (suc c) p bs m d l h =
     ⊎-elim
     (λ (e : c ≡ d).
-        subst (λ (j : ℕ). getD (set (noted c p bs m) (heard-cell p c) (max (low m (heard-cell p c)) (number-at bs (4 + c * 4)))) (heard-cell p j) 0 ≡ max (low m (heard-cell p j)) (number-at bs (4 + j * 4))) e
-        (getD-set-same (noted c p bs m) (heard-cell p c) (max (low m (heard-cell p c)) (number-at bs (4 + c * 4))) 0 (let f = noted-length c p bs m in omega arith)))
+    subst (λ (j : ℕ). getD (set (noted c p bs m) (heard-cell p c) (max (low m (heard-cell p c)) (number-at bs (4 + c * 4)))) (heard-cell p j) 0 ≡ max (low m (heard-cell p j)) (number-at bs (4 + j * 4))) e
+    (getD-set-same (noted c p bs m) (heard-cell p c) (max (low m (heard-cell p c)) (number-at bs (4 + c * 4))) 0 (let f = noted-length c p bs m in omega arith)))
     (λ (e : c ≡ d → ⊥).
-        getD-set-other (noted c p bs m) (heard-cell p c) (heard-cell p d) (max (low m (heard-cell p c)) (number-at bs (4 + c * 4))) 0 (λ z. e (omega arith))
-        ∙ noted-at c p bs m d (omega (arith, l)) (omega arith))
+    getD-set-other (noted c p bs m) (heard-cell p c) (heard-cell p d) (max (low m (heard-cell p c)) (number-at bs (4 + c * 4))) 0 (λ z. e (omega arith))
+    ∙ noted-at c p bs m d (omega (arith, l)) (omega arith))
     (cases-eq c d)
 
 larger-max : (a b : ℕ) → max a b ≡ larger a b
@@ -63,7 +63,7 @@ module _ {m : List ℕ} {log : List Op} {h : ℕ → ℕ → ℕ} (p : ℕ) (bs 
       let r = k .long in
       subst (λ (c : ℕ). low (noted 32 p bs m) (heard-cell c d) ≡ pick (eqb c p) (larger (h c d) (v d)) (h c d)) (sym z)
       (ap (λ n. n % 4294967296) (noted-at 32 p bs m d b (omega arith)) ∙ low-max (getD m (heard-cell p d) 0) (number-at bs (4 + d * 4)) (number-small bs (4 + d * 4))
-       ∙ ap₂ max (k .heard-is p d l b) (e d b) ∙ larger-max (h p d) (v d) ∙ ap (λ t. pick t (larger (h p d) (v d)) (h p d)) (sym (eq-eqb p p refl)))
+      ∙ ap₂ max (k .heard-is p d l b) (e d b) ∙ larger-max (h p d) (v d) ∙ ap (λ t. pick t (larger (h p d) (v d)) (h p d)) (sym (eq-eqb p p refl)))
   heard-after q d a b (inr z) =
       low-same m (noted 32 p bs m) (heard-cell q d) (noted-outside 32 p bs m (heard-cell q d) (outside (cases-order q p)))
       ∙ k .heard-is q d a b ∙ ap (λ t. pick t (larger (h q d) (v d)) (h q d)) (sym (ne-eqb q p z))

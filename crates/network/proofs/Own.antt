@@ -17,9 +17,15 @@ use Rattle.network.proofs.OwnLetters.{writes-law, reads-law}
 
 own-lawful : Lawful core own most-records Rep Bears
 own-lawful =
-    record
-      { steady = own-steady; large = omega arith; opens-well = opens-law; says-well = says-law; says-no = λ i m log h c hi r b sm kn. says-no-law i m log h c hi r kn; writes-well = writes-law;
-        reads-well = λ i j m log h bs v news hi hj ne r c small b b₁. reads-law i j m log h bs v news hi hj ne r c b₁ }
+    record {
+      steady = own-steady;
+      large = omega arith;
+      opens-well = opens-law;
+      says-well = says-law;
+      says-no = λ i m log h c hi r b sm kn. says-no-law i m log h c hi r kn;
+      writes-well = writes-law;
+      reads-well = λ i j m log h bs v news hi hj ne r c small b b₁. reads-law i j m log h bs v news hi hj ne r c b₁;
+    }
 
 pub whole-core : promise.Whole core own
 whole-core = whole core own most-records Rep Bears (turns-core any-order) own-lawful

@@ -37,9 +37,12 @@ Says i m log h c =
 -- a run that is known, beside a turn that is
 says-by : (i : ℕ) (m : List ℕ) (log : List Op) (h : ℕ → ℕ → ℕ) (c : Command) (l : List ℕ) (k : ℕ) (ss : List (List ℕ)) (ops : List Op) →
     runs-on 3 own m (said c) ≡ ran l ss [] k → turn i log c ≡ record { reply = k; shows = ss; ops = ops } → Rep i l ops h → Says i m log h c
-says-by i m log h c l k ss ops p q r =
-    (ap (λ (z : Ran). z .end) p ∙ sym (ap (λ (t : Turn). t .reply) q), ap (λ (z : Ran). z .showed) p ∙ sym (ap (λ (t : Turn). t .shows) q), ap (λ (z : Ran). z .sent) p,
-      subst (λ (z : Ran). Rep i (z .memory) (turn i log c .ops) h) (sym p) (subst (λ x. Rep i l x h) (sym (ap (λ (t : Turn). t .ops) q)) r))
+says-by i m log h c l k ss ops p q r = (
+  ap (λ (z : Ran). z .end) p ∙ sym (ap (λ (t : Turn). t .reply) q),
+  ap (λ (z : Ran). z .showed) p ∙ sym (ap (λ (t : Turn). t .shows) q),
+  ap (λ (z : Ran). z .sent) p,
+  subst (λ (z : Ran). Rep i (z .memory) (turn i log c .ops) h) (sym p) (subst (λ x. Rep i l x h) (sym (ap (λ (t : Turn). t .ops) q)) r),
+)
 
 -- A DEED
 highest-few : (log : List Op) → Bounded log → highest log ≤ 8192
@@ -57,7 +60,7 @@ module _ (i : ℕ) (m : List ℕ) (log : List Op) (h : ℕ → ℕ → ℕ) (hi 
   no-room : 256 ≤ made-by i log → has-room m (me m) ≡ false
   no-room many =
       sym (no-room-false m (me m)
-        (no-room-made m (me m) (made-by i log) (kept m) (highest-up-to 32 m) (sym (ap (λ d. low m (made-cell d)) (me-is i m log h hi r) ∙ r .keeps .made-is i hi)) refl refl many))
+      (no-room-made m (me m) (made-by i log) (kept m) (highest-up-to 32 m) (sym (ap (λ d. low m (made-cell d)) (me-is i m log h hi r) ∙ r .keeps .made-is i hi)) refl refl many))
 
   -- the operation that the machine makes is the paper's
   made : (k : Kind) → appended (idle m) (deed m (me m) k) ≡ appended m (deed-by i log k)
@@ -68,9 +71,11 @@ module _ (i : ℕ) (m : List ℕ) (log : List Op) (h : ℕ → ℕ → ℕ) (hi 
   after : (k : Kind) → Small-kind k → length log < 8192 → Rep i (appended m (deed-by i log k)) (log ++ deed-by i log k ∷ []) h
   after k small short =
       let v = version-highest log i in let g = highest-few log b in
-      record
-        { keeps = keeps-append (deed-by i log k) (r .keeps) (omega arith, hi, small) short (omega arith);
-          desk = append-other m (deed-by i log k) 0 (omega arith) ∙ r .desk; still = append-other m (deed-by i log k) 1 (omega arith) ∙ r .still }
+      record {
+        keeps = keeps-append (deed-by i log k) (r .keeps) (omega arith, hi, small) short (omega arith);
+        desk = append-other m (deed-by i log k) 0 (omega arith) ∙ r .desk;
+        still = append-other m (deed-by i log k) 1 (omega arith) ∙ r .still;
+      }
 
   -- a command that makes an operation of a kind
   deed-law : (c : Command) (k : Kind) → Small-kind k → turn i log c ≡ do-it i log k → does m (said c) ≡ says (appended (idle m) (deed m (me m) k)) done →
@@ -80,14 +85,14 @@ module _ (i : ℕ) (m : List ℕ) (log : List Op) (h : ℕ → ℕ → ℕ) (hi 
       go : (t : Bool) → leb 256 (made-by i log) ≡ t → Says i m log h c
       go true e =
           says-by i m log h c m 7 [] log (own-refused m (said c) 7 (omega arith) (omega arith) (refuses m (said c) 6 (er false (no-room (leb-true 256 (made-by i log) e)))))
-            (et ∙ ap (λ t. pick t (no 7 log) (yes-with [] (log ++ deed-by i log k ∷ []))) e) r
+          (et ∙ ap (λ t. pick t (no 7 log) (yes-with [] (log ++ deed-by i log k ∷ []))) e) r
       go false e =
           let q : turn i log c ≡ yes-with [] (log ++ deed-by i log k ∷ []) = et ∙ ap (λ t. pick t (no 7 log) (yes-with [] (log ++ deed-by i log k ∷ []))) e in
           let f = subst (λ ops. length ops ≤ 8192) (ap (λ (t : Turn). t .ops) q) (bt .few) in
           let n = length-append log (deed-by i log k ∷ []) in
           let short : length log < 8192 = omega arith in
           says-by i m log h c (appended m (deed-by i log k)) 0 [] (log ++ deed-by i log k ∷ [])
-            (own-done m (appended m (deed-by i log k)) (said c) (accepts m (said c) (er true (room (leb-false 256 (made-by i log) e) short)) ∙ (ed ∙ ap (λ l. says l done) (made k)))) q (after k small short)
+          (own-done m (appended m (deed-by i log k)) (said c) (accepts m (said c) (er true (room (leb-false 256 (made-by i log) e) short)) ∙ (ed ∙ ap (λ l. says l done) (made k)))) q (after k small short)
 
   -- A KEY SHOWN: the word, then the tally
   module _ (k : ℕ) (small : k < 4294967296) where
@@ -115,7 +120,7 @@ module _ (i : ℕ) (m : List ℕ) (log : List Op) (h : ℕ → ℕ → ℕ) (hi 
     rep₂ : Rep i m₂ log h
     rep₂ =
         record
-          { keeps = keeps-set 1 0 keeps₁ (omega arith); desk = getD-set-other m₁ 1 0 0 0 (omega arith) ∙ open₁; still = getD-set-same m₁ 1 0 0 (let f = keeps₁ .long in omega arith) }
+        { keeps = keeps-set 1 0 keeps₁ (omega arith); desk = getD-set-other m₁ 1 0 0 0 (omega arith) ∙ open₁; still = getD-set-same m₁ 1 0 0 (let f = keeps₁ .long in omega arith) }
 
     shows-tally : step-own m₁ next ≡ says m₂ (shows (count-at log k ∷ []))
     unfolding does goes-on
@@ -135,7 +140,7 @@ module _ (i : ℕ) (m : List ℕ) (log : List Op) (h : ℕ → ℕ → ℕ) (hi 
     unfolding turn
     key-law =
         says-by i m log h (show-key k) m₂ 0 (word-at log k ∷ (count-at log k ∷ []) ∷ []) log
-          (own-shows-two m m₁ m₂ m₂ (word-at log k) (count-at log k ∷ []) (said (show-key k)) shows-word shows-tally (next-done i m₂ log h hi rep₂)) refl rep₂
+        (own-shows-two m m₁ m₂ m₂ (word-at log k) (count-at log k ∷ []) (said (show-key k)) shows-word shows-tally (next-done i m₂ log h hi rep₂)) refl rep₂
 
 pub says-law : (i : ℕ) (m : List ℕ) (log : List Op) (h : ℕ → ℕ → ℕ) (c : Command) → i < 32 → Rep i m log h → Bounded log → small-command c ≡ true → core c ≡ true → Bounded (turn i log c .ops) → Says i m log h c
 unfolding core small-command turn does does-said

@@ -57,18 +57,20 @@ writes-law i j m log h hi hj ne r b =
     let bs : List ℕ = letter-of i j (version log) news in
     let inside : (o : Op) → In o news → In o log = λ o k. newer-in (h j) log o (take-in most-records (newer-than (h j) log) o k) .0 in
     let bears : Bears i j bs (version log) news =
-          record
-            { bytes = refl; few = (let e = length-take most-records (newer-than (h j) log) in omega arith); vector-small = λ d. version-small log d b; small = λ o k. r .keeps .small o (inside o k) } in
+    record
+    { bytes = refl; few = (let e = length-take most-records (newer-than (h j) log) in omega arith); vector-small = λ d. version-small log d b; small = λ o k. r .keeps .small o (inside o k) } in
     let d = borne i j bs (version log) news hi hj bears in
     let l = d .long in
     let f = bears .few in
     let fits : a-letter bs ≡ true = and-from (leb (length bs) 4096) (every (λ x. ltb x 256) bs) (le-leb (length bs) 4096 (omega arith)) (d .bytes) in
     let e : step-own m (letter-to j) ≡ says m (sends bs) =
-          accepts m (letter-to j) (letter-well m j (me m) (is-open-here i m log h hi r) refl (hj, λ z. ne (sym (me-is i m log h hi r) ∙ sym z)))
-          ∙ ap₂ (λ x y. says x (sends y)) (idle-same m (r .still)) (ap (λ w. letter-for m w j) (me-is i m log h hi r) ∙ keeps-letter i j (r .keeps) hj) in
-    let p : runs-on 3 own m (letter-to j) ≡ ran m [] (bs ∷ []) 0 = own-sends m m m bs (letter-to j) fits e (next-done i m log h hi r) in
-    (ap (λ z. made-well z) p ∙ well-made m bs, subst (λ (z : Ran). Rep i (z .memory) log h) (sym p) r,
-      subst (λ (z : Ran). Bears i j (first-letter (z .sent)) (version log) news) (sym p) bears)
+    accepts m (letter-to j) (letter-well m j (me m) (is-open-here i m log h hi r) refl (hj, λ z. ne (sym (me-is i m log h hi r) ∙ sym z)))
+    ∙ ap₂ (λ x y. says x (sends y)) (idle-same m (r .still)) (ap (λ w. letter-for m w j) (me-is i m log h hi r) ∙ keeps-letter i j (r .keeps) hj) in
+    let p : runs-on 3 own m (letter-to j) ≡ ran m [] (bs ∷ []) 0 = own-sends m m m bs (letter-to j) fits e (next-done i m log h hi r) in (
+      ap (λ z. made-well z) p ∙ well-made m bs,
+      subst (λ (z : Ran). Rep i (z .memory) log h) (sym p) r,
+      subst (λ (z : Ran). Bears i j (first-letter (z .sent)) (version log) news) (sym p) bears,
+    )
 
 -- READING
 pub reads-law : (i j : ℕ) (m : List ℕ) (log : List Op) (h : ℕ → ℕ → ℕ) (bs : List ℕ) (v : ℕ → ℕ) (news : List Op) → i < 32 → j < 32 → (i ≡ j → ⊥) → Rep i m log h → Bears j i bs v news →
@@ -85,10 +87,11 @@ reads-law i j m log h bs v news hi hj ne r c b =
     let desk₂ : getD m₂ 0 0 ≡ suc i = ap (λ l. getD l 0 0) (sym same) ∙ (received-other j bs m 0 (omega arith) ∙ r .desk) in
     let still₂ : getD m₂ 1 0 ≡ 0 = ap (λ l. getD l 1 0) (sym same) ∙ (received-other j bs m 1 (omega arith) ∙ r .still) in
     let e : step-own m (hears j bs) ≡ says m₂ done =
-          accepts m (hears j bs)
-            (hears-by m j (me m) bs true (is-open-here i m log h hi r) refl (hj, λ z. ne (sym (me-is i m log h hi r) ∙ sym z)) (ap (λ w. is-letter j w bs) (me-is i m log h hi r) ∙ d .accepted))
-          ∙ (ap (λ l. says (idle l) done) same ∙ ap (λ l. says l done) (idle-same m₂ still₂)) in
-    let p : runs-on 3 own m (hears j bs) ≡ ran m₂ [] [] 0 = own-done m m₂ (hears j bs) e in
-    (ap (λ z. read-well z) p ∙ well-read m₂,
+    accepts m (hears j bs)
+    (hears-by m j (me m) bs true (is-open-here i m log h hi r) refl (hj, λ z. ne (sym (me-is i m log h hi r) ∙ sym z)) (ap (λ w. is-letter j w bs) (me-is i m log h hi r) ∙ d .accepted))
+    ∙ (ap (λ l. says (idle l) done) same ∙ ap (λ l. says l done) (idle-same m₂ still₂)) in
+    let p : runs-on 3 own m (hears j bs) ≡ ran m₂ [] [] 0 = own-done m m₂ (hears j bs) e in (
+      ap (λ z. read-well z) p ∙ well-read m₂,
       subst (λ (z : Ran). Rep i (z .memory) (deliver-all log news) (raised h j v)) (sym p)
-        (record { keeps = k₂; desk = desk₂; still = still₂ }))
+          (record { keeps = k₂; desk = desk₂; still = still₂ }),
+    )

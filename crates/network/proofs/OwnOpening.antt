@@ -29,9 +29,11 @@ module _ (n : ℕ) (e : n ≡ memory-size) (i : ℕ) (hi : i < 32) where
   rep-opened : Rep i opened-cells [] (λ p d. 0)
   rep-opened =
       let l : length (idle zeros) ≡ n = length-set zeros 1 0 ∙ length-replicate {A = ℕ} n 0 in
-      record
-        { keeps = keeps-blank n (suc i) e; desk = getD-set-same (idle zeros) 0 (suc i) 0 (omega arith);
-          still = getD-set-other (idle zeros) 0 1 (suc i) 0 (omega arith) ∙ getD-set-same zeros 1 0 0 (let q = length-replicate {A = ℕ} n 0 in omega arith) }
+      record {
+        keeps = keeps-blank n (suc i) e;
+        desk = getD-set-same (idle zeros) 0 (suc i) 0 (omega arith);
+        still = getD-set-other (idle zeros) 0 1 (suc i) 0 (omega arith) ∙ getD-set-same zeros 1 0 0 (let q = length-replicate {A = ℕ} n 0 in omega arith);
+      }
 
   opens-step : step-own zeros (opens i) ≡ says opened-cells done
   unfolding does

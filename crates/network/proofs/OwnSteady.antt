@@ -42,9 +42,10 @@ room-small m d t =
     ltb-true _ _ (and-parts (ltb (kept m) 8192) (is-small (suc (highest-up-to 32 m))) (p .1) .1)
 
 sound-deed : (m : List ℕ) (k : Kind) → Small-kind k → has-room m (me m) ≡ true → Sound m (says (appended (idle m) (deed m (me m) k)) done)
-sound-deed m k small t =
-    (append-length (idle m) (deed m (me m) k) ∙ length-set m 1 0,
-      λ h. every-appended (idle m) (deed m (me m) k) (every-set m 1 0 h (omega arith)) (room-small m (me m) t, omega arith, small))
+sound-deed m k small t = (
+  append-length (idle m) (deed m (me m) k) ∙ length-set m 1 0,
+  λ h. every-appended (idle m) (deed m (me m) k) (every-set m 1 0 h (omega arith)) (room-small m (me m) t, omega arith, small),
+)
 
 -- what a command that isn't refused has passed
 passed : (b t : Bool) → _≡_ {A = ℕ} (pick b (pick t 0 7) 1) 0 → (b ≡ true) × (t ≡ true)

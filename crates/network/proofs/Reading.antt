@@ -37,11 +37,11 @@ keeps-highest {m} {log} k =
     let a = row-below 32 m (highest log) (λ d l. let e = k .version-is d l in let b = version-highest log d in omega arith) in
     ⊎-elim (λ z. omega arith)
     (λ r. let s = k .small (r .0) (r .1) .1 in
-        let b = version-above log (r .0) (r .1) in
-        let c = k .version-is (r .0 .name .who) s in
-        let e = row-above 32 m (r .0 .name .who) s in
-        let f = r .2 in
-        omega arith)
+    let b = version-above log (r .0) (r .1) in
+    let c = k .version-is (r .0 .name .who) s in
+    let e = row-above 32 m (r .0 .name .who) s in
+    let f = r .2 in
+    omega arith)
     (highest-of log)
 
 -- an operation of the log is of a desk below 32, so the rest of a row doesn't matter

@@ -18,12 +18,12 @@ kind-small : (k a x y : ℕ) → a < 32 → x < 4294967296 → y < 4294967296 �
 unfolding kind-by
 kind-small k a x y ha hx hy =
     elim (eqb k 0) as (λ b. Small-kind (pick b (put-in (id x a) y) (pick (eqb k 1) (struck (id x a)) (pick (eqb k 2) (under x y) (added x y))))) [
-      true ↦ (hx, ha, hy)
-    | false ↦
-        elim (eqb k 1) as (λ b. Small-kind (pick b (struck (id x a)) (pick (eqb k 2) (under x y) (added x y)))) [
-          true ↦ (hx, ha)
-        | false ↦ elim (eqb k 2) as (λ b. Small-kind (pick b (under x y) (added x y))) [ true ↦ (hx, hy) | false ↦ (hx, hy) ]
-        ]
+      | true ↦ (hx, ha, hy)
+      | false ↦
+          elim (eqb k 1) as (λ b. Small-kind (pick b (struck (id x a)) (pick (eqb k 2) (under x y) (added x y)))) [
+            | true ↦ (hx, ha)
+            | false ↦ elim (eqb k 2) as (λ b. Small-kind (pick b (under x y) (added x y))) [ true ↦ (hx, hy) | false ↦ (hx, hy) ]
+          ]
     ]
 
 desk-small : (n : ℕ) → n % 32 < 32

@@ -28,7 +28,7 @@ module _ (l : List ℕ) (k n w : ℕ) (hn : n < 4294967296) (hw : w < 32) where
   slot-back t x y z kd ht hx hy hz f e =
       sym
       (op-is l k n w t x y z kd (cell-back l k 0 n (e 0 (omega arith)) hn) (cell-back l k 1 w (e 1 (omega arith)) (omega arith)) (cell-back l k 2 t (e 2 (omega arith)) ht)
-          (cell-back l k 3 x (e 3 (omega arith)) hx) (cell-back l k 4 y (e 4 (omega arith)) hy) (cell-back l k 5 z (e 5 (omega arith)) hz) f)
+      (cell-back l k 3 x (e 3 (omega arith)) hx) (cell-back l k 4 y (e 4 (omega arith)) hy) (cell-back l k 5 z (e 5 (omega arith)) hz) f)
       ∙ ap (λ (v : ℕ). record { name = id n v; kind = kd }) (desk-small w hw)
 
   kind-back : (kd : Kind) → Small-kind kd → ((j : ℕ) → j < 6 → getD l (slot k + j) 0 ≡ getD (n ∷ w ∷ row-of kd) j 0) → _≡_ {A = Op} (op-at l k) (record { name = id n w; kind = kd })

@@ -76,8 +76,14 @@ append-other m o i l =
 op-at-same : (m l : List ℕ) (k : ℕ) → ((i : ℕ) → slot k ≤ i → i < slot k + 6 → getD l i 0 ≡ getD m i 0) → op-at l k ≡ op-at m k
 unfolding op-at
 op-at-same m l k h =
-    rw (h (slot k + 0) (omega arith) (omega arith), h (slot k + 1) (omega arith) (omega arith), h (slot k + 2) (omega arith) (omega arith),
-        h (slot k + 3) (omega arith) (omega arith), h (slot k + 4) (omega arith) (omega arith), h (slot k + 5) (omega arith) (omega arith))
+    rw (
+      h (slot k + 0) (omega arith) (omega arith),
+      h (slot k + 1) (omega arith) (omega arith),
+      h (slot k + 2) (omega arith) (omega arith),
+      h (slot k + 3) (omega arith) (omega arith),
+      h (slot k + 4) (omega arith) (omega arith),
+      h (slot k + 5) (omega arith) (omega arith),
+    )
 
 pub firsts-same : (k : ℕ) (m l : List ℕ) → ((i : ℕ) → slot 0 ≤ i → i < slot k → getD l i 0 ≡ getD m i 0) → firsts k l ≡ firsts k m
 unfolding firsts

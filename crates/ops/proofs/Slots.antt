@@ -75,7 +75,7 @@ pub stores-are : (row vs m : List ℕ) (p : ℕ) → row ≡ vs → length vs �
     set (set (set (set (set (set m p (getD row 0 0)) (p + 1) (getD row 1 0)) (p + 2) (getD row 2 0)) (p + 3) (getD row 3 0)) (p + 4) (getD row 4 0)) (p + 5) (getD row 5 0) ≡ sets m p vs
 stores-are row vs m p e h =
     subst (λ r. set (set (set (set (set (set m p (getD r 0 0)) (p + 1) (getD r 1 0)) (p + 2) (getD r 2 0)) (p + 3) (getD r 3 0)) (p + 4) (getD r 4 0)) (p + 5) (getD r 5 0) ≡ sets m p vs) (sym e)
-      (six-stores vs m p h)
+    (six-stores vs m p h)
 
 -- one more desk of the version vector
 pub highest-more : (m : List ℕ) (d h v r : ℕ) → h ≡ highest-up-to d m → v ≡ low m (version-cell d) → r ≡ max h v → r ≡ highest-up-to (d + 1) m

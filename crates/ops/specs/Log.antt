@@ -43,7 +43,7 @@ cells-of o = o .name .n ∷ o .name .who ∷ row-of (o .kind)
 unfoldable pub with-op : List ℕ → ℕ → doc.Op → List ℕ
 with-op m k o =
     set (set (set (sets m (slot k) (cells-of o)) length-cell (k + 1)) (version-cell (o .name .who)) (o .name .n))
-        (made-cell (o .name .who)) (low m (made-cell (o .name .who)) + 1)
+    (made-cell (o .name .who)) (low m (made-cell (o .name .who)) + 1)
 
 -- if there's room; else nothing is changed
 unfoldable pub appended : List ℕ → doc.Op → List ℕ

@@ -9,18 +9,18 @@ ghost use Rattle.std.specs.Options.{mapped};
 ghost use Rattle.ops.specs.Layout.{memory-size, version-cell, made-cell, slot, low};
 ghost use Rattle.ops.specs.Log.{kept, part, op-at, cells-of, appended, highest-up-to};
 ghost use Rattle.ops.specs.Values.{desk-of, op-of, held, Holds};
+use crate::layout::CAPACITY;
+use crate::layout::DESKS;
+use crate::layout::LENGTH;
+use crate::layout::LOG;
+use crate::layout::MADE;
+use crate::layout::VERSION;
+use crate::layout::WIDTH;
 use crate::types::Desk;
 use crate::types::Kind;
 use crate::types::Memory;
 use crate::types::Op;
 use crate::types::OpId;
-
-const LENGTH: usize = 3;
-const VERSION: usize = 32;
-const MADE: usize = 64;
-const LOG: usize = 1120;
-const WIDTH: usize = 6;
-const CAPACITY: usize = 8192;
 
 impl Op {
     // The six cells that keep it.
@@ -30,8 +30,22 @@ impl Op {
         let n = u64::from(self.id.n);
         let desk = u64::from(self.id.desk.number);
         match self.kind {
-            Kind::Insert { after, sign } => [n, desk, 0, u64::from(after.n), u64::from(after.desk.number), u64::from(sign)],
-            Kind::Delete { target } => [n, desk, 1, u64::from(target.n), u64::from(target.desk.number), 0],
+            Kind::Insert { after, sign } => [
+                n,
+                desk,
+                0,
+                u64::from(after.n),
+                u64::from(after.desk.number),
+                u64::from(sign),
+            ],
+            Kind::Delete { target } => [
+                n,
+                desk,
+                1,
+                u64::from(target.n),
+                u64::from(target.desk.number),
+                0,
+            ],
             Kind::Write { key, word } => [n, desk, 2, u64::from(key), u64::from(word), 0],
             Kind::Add { key, amount } => [n, desk, 3, u64::from(key), u64::from(amount), 0],
         }
@@ -70,12 +84,25 @@ impl Memory<'_> {
         if k >= self.length() {
             return None;
         }
-        let id = OpId { n: self.field(k, 0), desk: Desk { number: (self.field(k, 1) % 32) as u8 } };
+        let id = OpId {
+            n: self.field(k, 0),
+            desk: Desk {
+                number: (self.field(k, 1) % 32) as u8,
+            },
+        };
         let x = self.field(k, 3);
         let y = self.field(k, 4);
-        let target = OpId { n: x, desk: Desk { number: (y % 32) as u8 } };
+        let target = OpId {
+            n: x,
+            desk: Desk {
+                number: (y % 32) as u8,
+            },
+        };
         let kind = match self.field(k, 2) {
-            0 => Kind::Insert { after: target, sign: self.field(k, 5) },
+            0 => Kind::Insert {
+                after: target,
+                sign: self.field(k, 5),
+            },
             1 => Kind::Delete { target },
             2 => Kind::Write { key: x, word: y },
             _ => Kind::Add { key: x, amount: y },
@@ -102,7 +129,7 @@ impl Memory<'_> {
         ensures { λ r. ⌜ r ≡ highest-up-to 32 (held (now (self .entry))) ⌝ }
     {
         let mut highest: u32 = 0;
-        for d in 0..32usize {
+        for d in 0..DESKS {
             highest = highest.max(self.low_half(VERSION + d));
         }
         highest

@@ -5,17 +5,21 @@ ghost use Rattle.std.specs.Numbers.{Checked};
 ghost use Rattle.std.specs.Options.{mapped};
 ghost use Rattle.ops.specs.Doc.{id-before, same-id};
 ghost use Rattle.ops.specs.Values.{desk-of, id-of};
+use crate::layout::DESKS;
 use crate::types::Desk;
 use crate::types::OpId;
-
-// How many desks there are.
-const DESKS: u64 = 32;
 
 impl Desk {
     pub fn new(number: u64) -> Option<Desk>
         ensures { λ r. ⌜ Checked (mapped desk-of r) (number < 32) number ⌝ }
     {
-        if number < DESKS { Some(Desk { number: number as u8 }) } else { None }
+        if number < DESKS as u64 {
+            Some(Desk {
+                number: number as u8,
+            })
+        } else {
+            None
+        }
     }
 
     pub fn is_same(self, other: Desk) -> bool

@@ -12,8 +12,9 @@ loop-i-holds c = (refl, omega arith, omega arith)
 pub loop-i-again : need.loop-i-again
 loop-i-again c =
     elim (c .if-is-before .came) [
-        then-is-before w ↦ sofar-at _ _ _ _ (w .best-is) (sofar-newer _ _ _ (c .loop-i-test .taken) (c .loop-i .inv) (sym (w .if-is-before .taken) ∙ c .is-before .ensures))
-      | else-is-before w ↦ sofar-at _ _ _ _ (w .best-is) (sofar-older _ _ _ (c .loop-i-test .taken) (c .loop-i .inv) (sym (w .if-is-before .left) ∙ c .is-before .ensures)) ]
+      | then-is-before w ↦ sofar-at _ _ _ _ (w .best-is) (sofar-newer _ _ _ (c .loop-i-test .taken) (c .loop-i .inv) (sym (w .if-is-before .taken) ∙ c .is-before .ensures))
+      | else-is-before w ↦ sofar-at _ _ _ _ (w .best-is) (sofar-older _ _ _ (c .loop-i-test .taken) (c .loop-i .inv) (sym (w .if-is-before .left) ∙ c .is-before .ensures))
+    ]
 
 pub returns-then-names-ne0 : need.returns-then-names-ne0
 returns-then-names-ne0 c = odd-names _ (c .if-names-ne0 .taken)

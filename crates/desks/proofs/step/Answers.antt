@@ -66,4 +66,4 @@ go-on-requires c κs = fits-row _ _ _ _ _ (c .if-not-fits .ensures tt)
 pub returns-in-rest : need.returns-in-rest
 returns-in-rest c =
     step-unknown _ _ _ _ _ _ _ _ (c .if-not-fits .ensures tt) (fits-kind _ _ _ _ _ (c .if-not-fits .ensures tt)) (omega arith) (omega arith) (omega arith) (omega arith) (omega arith) (omega arith) (omega arith)
-      (c .refusal-of-unknown .ensures) _ (search needs)
+    (c .refusal-of-unknown .ensures) _ (search needs)

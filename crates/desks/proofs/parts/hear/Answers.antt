@@ -19,4 +19,4 @@ returns-then-not-read-letter c =
 pub returns : need.returns
 returns c =
     heard-well _ _ _ _ _ _ _ (c .in-Some .ensures tt .0) (c .in-Some .ensures tt .1) (c .in-Some-peer-of .ensures tt) (c .if-not-read-letter .ensures tt .value) (c .if-not-read-letter .ensures tt .after) _ refl
-      (record { after = refl; same = refl })
+    (record { after = refl; same = refl })

@@ -14,6 +14,7 @@ pub returns-in-Break-n : need.returns-in-Break-n
 returns-in-Break-n c = simp (c .from-residual .ensures) (no-room-number _ _ _ _ _ (c .made .ensures) (c .length .ensures .value) (c .highest .ensures) (c .in-Break-n .ensures tt))
 
 pub returns : need.returns
-returns c =
-    (room-there _ _ _ _ _ (c .made .ensures) (c .length .ensures .value) (c .highest .ensures) (c .if-made-ge-MOST-DEEDS .left) (c .if-length-ge-CAPACITY .left) (c .in-Continue-n .ensures tt .0),
-      new-id _ _ _ _ (c .highest .ensures) (c .in-Continue-n .ensures tt .1))
+returns c = (
+  room-there _ _ _ _ _ (c .made .ensures) (c .length .ensures .value) (c .highest .ensures) (c .if-made-ge-MOST-DEEDS .left) (c .if-length-ge-CAPACITY .left) (c .in-Continue-n .ensures tt .0),
+  new-id _ _ _ _ (c .highest .ensures) (c .in-Continue-n .ensures tt .1),
+)

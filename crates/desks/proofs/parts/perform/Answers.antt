@@ -8,6 +8,7 @@ returns-in-rest c = record { room = no-room-false _ _ (c .in-rest .ensures tt); 
 
 pub returns : need.returns
 returns c =
-    record
-      { room = sym (c .in-Some .ensures tt .0);
-        after = performed _ _ _ _ _ (kind-of (c .args .kind)) (record { after = refl; same = refl }) (c .in-Some .ensures tt) (c .append .ensures .after) }
+    record {
+      room = sym (c .in-Some .ensures tt .0);
+      after = performed _ _ _ _ _ (kind-of (c .args .kind)) (record { after = refl; same = refl }) (c .in-Some .ensures tt) (c .append .ensures .after);
+    }

@@ -19,9 +19,9 @@ returns-in-rest-narrow-2 c =
 pub returns-then-perform : need.returns-then-perform
 returns-then-perform c =
     write-done _ _ _ _ _ _ _ (c .in-Some .ensures tt .0) (c .in-Some .ensures tt .1) (c .in-Some-narrow .ensures tt) (c .in-Some-narrow-2 .ensures tt) _ (c .if-perform .ensures tt .room) refl
-      (c .if-perform .ensures tt .after)
+    (c .if-perform .ensures tt .after)
 
 pub returns-else-perform : need.returns-else-perform
 returns-else-perform c =
     write-full _ _ _ _ _ _ _ (c .in-Some .ensures tt .0) (c .in-Some .ensures tt .1) (c .in-Some-narrow .ensures tt) (c .in-Some-narrow-2 .ensures tt) _ (c .if-perform .ensures tt .room) refl
-      (c .if-perform .ensures tt .after)
+    (c .if-perform .ensures tt .after)

@@ -20,9 +20,9 @@ returns-then-letter-to c =
 pub returns-then-not-are-records : need.returns-then-not-are-records
 returns-then-not-are-records c =
     no-records _ _ _ (c .typed .letter) (c .if-letter-count .left) (c .if-letter-ne-FORMAT .left) (c .if-letter-from .left) (c .if-letter-to .left)
-      (c .if-not-are-records .ensures tt)
+    (c .if-not-are-records .ensures tt)
 
 pub returns : need.returns
 returns c =
     all-but-seal _ _ _ (c .typed .letter) (c .if-letter-count .left) (c .if-letter-ne-FORMAT .left) (c .if-letter-from .left) (c .if-letter-to .left)
-      _ (c .if-not-are-records .ensures tt) (c .is-sealed .ensures)
+    _ (c .if-not-are-records .ensures tt) (c .is-sealed .ensures)

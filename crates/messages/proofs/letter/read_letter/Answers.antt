@@ -16,9 +16,11 @@ deliver-records-requires c κs = let l = letter-length _ _ _ (c .typed .letter) 
 
 pub returns : need.returns
 returns c =
-    record
-      { value = c .if-not-is-whole .ensures tt;
-        after =
-          record
-            { after = received-is _ _ _ _ _ _ (c .note-versions .ensures .after) (as-byte _ (c .typed .letter) 3) (c .deliver-records .ensures .after);
-              same = c .deliver-records .ensures .same ∙ c .note-versions .ensures .same } }
+    record {
+      value = c .if-not-is-whole .ensures tt;
+      after =
+          record {
+            after = received-is _ _ _ _ _ _ (c .note-versions .ensures .after) (as-byte _ (c .typed .letter) 3) (c .deliver-records .ensures .after);
+            same = c .deliver-records .ensures .same ∙ c .note-versions .ensures .same;
+          };
+    }

@@ -8,4 +8,4 @@ returns-then-out-lt-LONGEST c = wrote-nothing _ (c .args .out .now) (c .if-out-l
 pub returns : need.returns
 returns c =
     wrote-letter _ _ _ _ _ _ _ _ _ _ (c .if-out-lt-LONGEST .left)
-      (c .write-versions .ensures) (c .write-news-count .ensures .count) (c .write-news-count .ensures .after) (c .write-head .ensures) refl (c .seal .ensures)
+    (c .write-versions .ensures) (c .write-news-count .ensures .count) (c .write-news-count .ensures .after) (c .write-head .ensures) refl (c .seal .ensures)

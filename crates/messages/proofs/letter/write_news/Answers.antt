@@ -19,14 +19,15 @@ add-k c = omega (arith, c .in-Some .ensures tt .0, kept-few (held (c .args .memo
 
 pub loop-op-again : need.loop-op-again
 loop-op-again c =
-    elim (c .if-is-news .came)
-      [ then-is-news w ↦
+    elim (c .if-is-news .came) [
+      | then-is-news w ↦
           let s = sent-one _ (c .args .out .now) _ _ 132 (op-of (c .in-Some .op)) _ _ (omega arith) (c .in-Some .ensures tt .1) (c .loop-op .inv .1)
-                    _ (c .if-count-ge-MOST-RECORDS .left) (w .if-is-news .ensures tt) (w .put-record .ensures) in
+          _ (c .if-count-ge-MOST-RECORDS .left) (w .if-is-news .ensures tt) (w .put-record .ensures) in
           (omega (arith, c .in-Some .ensures tt .0), (w .count-is ∙ s .0, w .out-is ∙ s .1))
       | else-is-news w ↦
           let s = sent-other _ (c .args .out .now) _ _ 132 (op-of (c .in-Some .op)) _ _ (omega arith) (c .in-Some .ensures tt .1) (c .loop-op .inv .1) (w .if-is-news .ensures tt) in
-          (omega (arith, c .in-Some .ensures tt .0), (w .count-is ∙ s .0, w .out-is ∙ s .1)) ]
+          (omega (arith, c .in-Some .ensures tt .0), (w .count-is ∙ s .0, w .out-is ∙ s .1))
+    ]
 
 pub returns : need.returns
 returns c =

@@ -15,11 +15,13 @@ returns-then-k-ge-CAPACITY c =
 pub returns : need.returns
 returns c =
     let h : kept (held (c .args .self .now)) < 8192 = omega arith in
-    record
-      { room = sym (lt-ltb _ _ h);
-        after =
-          record
-            { after =
+    record {
+      room = sym (lt-ltb _ _ h);
+      after =
+          record {
+            after =
                 append-room _ _ (op-of (c .args .op)) _ _ _ (c .length-k .ensures .value) (c .if-k-ge-CAPACITY .left) (c .from .ensures)
-                  (c .from-2 .ensures ∙ c .made-made .ensures) (c .store .ensures .after);
-              same = c .store .ensures .same } }
+                (c .from-2 .ensures ∙ c .made-made .ensures) (c .store .ensures .after);
+            same = c .store .ensures .same;
+          };
+    }

@@ -10,7 +10,6 @@ use lib.Seq.{drop-cons}
 use native.Mathlib.Numerals.{add-one}
 use mathlib.Core.Logic.{⊎-elim}
 use Rattle.std.specs.Text.{asciiDigit}
-use Rattle.std.specs.declared.option.Option.{Option}
 use Rattle.std.specs.declared.option.Option.the-variants.{Some, None}
 use Rattle.std.proofs.shelf.Tests.{cond-true, cond-false, and-left, and-right, le-ltb, lt-ltb, cases-lt, cases-bool}
 use Rattle.commands.specs.Numbers.{all-digits, value-after, number-after, number-of}

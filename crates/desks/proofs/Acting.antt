@@ -1,25 +1,22 @@
 -- What the machine does when it doesn't refuse, as the code does it: the memory after, and what is told.
-use mathlib.Core.Path.{_≡_, refl, sym, ap, ap₂, subst, _∙_}
+use mathlib.Core.Path.{_≡_, refl, sym, ap, subst, _∙_}
 use mathlib.Core.Bool.{Bool, true, false, _&&_}
 use mathlib.Core.List.{List, [], _∷_, _++_}
 use Prim.Native.Nat.{ℕ, suc, _+_, _≤_, _<_}
 use native.Mathlib.Omega.{arith}
-use lib.Dec.{eqb, ltb}
+use lib.Dec.{ltb}
 use lib.ListN.{length, getD, set, drop}
-use Rattle.std.proofs.shelf.Tests.{eq-eqb, ne-eqb, lt-ltb, le-ltb, ltb-true, and-parts, and-from}
-use Rattle.std.specs.declared.option.Option.{Option}
-use Rattle.std.specs.declared.option.Option.the-variants.{Some, None}
+use Rattle.std.proofs.shelf.Tests.{eq-eqb, ne-eqb, lt-ltb, ltb-true, and-parts, and-from}
 use Rattle.ops.specs.Doc as doc
 use Rattle.ops.specs.Doc.{pick, id, under, added, write-under, add-to, show-key, word-at, count-at}
 use Rattle.ops.specs.Layout.{made-cell, key-cell, low}
 use Rattle.ops.specs.Log.{kept, ops-of, appended, highest-up-to}
 use Rattle.ops.specs.Values.{held, Holds}
 use Rattle.ops.specs.declared.types.Memory.{Memory}
-use Rattle.messages.specs.Letter.{letter-for, is-letter, received, Wrote}
+use Rattle.messages.specs.Letter.{letter-for, is-letter, received}
 use Rattle.desks.specs.Run.{Event, opens, said, letter-to, hears, next, shows, sends, done}
 use Rattle.desks.specs.Machine.{is-small, me, has-room, says, idle, deed, does-said, goes-on, does, step-own, refusal}
 use Rattle.desks.specs.Says.{Quiet, Showing, Sending}
-use Rattle.desks.specs.declared.Told.{Told}
 use Rattle.desks.specs.declared.Told.the-variants.{Shows, Sends, Done, No}
 use Rattle.desks.proofs.Refusals.{opens-well, write-small, add-small, key-small-shown, next-well, letter-well, hears-by}
 use Rattle.desks.proofs.Telling.{quiet-no, quiet-done, showing, shows-none, shows-one, sends-it}

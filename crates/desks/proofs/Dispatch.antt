@@ -1,17 +1,17 @@
 -- Which event a step is told by its number, and the whole step from its part.
 use mathlib.Core.Path.{_≡_, refl, sym, ap, subst, _∙_}
 use mathlib.Core.Bool.{Bool, true, false}
-use mathlib.Core.List.{List, [], _∷_}
+use mathlib.Core.List.{List}
 use mathlib.Core.Logic.{_⊎_, inl, inr}
-use Prim.Native.Nat.{ℕ, suc, _≤_, _<_}
+use Prim.Native.Nat.{ℕ, suc, _≤_}
 use native.Mathlib.Omega.{arith}
 use lib.Dec.{eqb}
-use Rattle.std.proofs.shelf.Tests.{eq-eqb, ne-eqb, eqb-true, eqb-false}
-use Rattle.ops.specs.Doc.{pick, insert, strike, write-under, add-to, show-text, show-key}
-use Rattle.ops.specs.Values.{held, Holds}
+use Rattle.std.proofs.shelf.Tests.{eqb-true, eqb-false}
+use Rattle.ops.specs.Doc.{pick, write-under, add-to, show-key}
+use Rattle.ops.specs.Values.{held}
 use Rattle.ops.specs.declared.types.Memory.{Memory}
-use Rattle.desks.specs.Run.{Event, opens, said, letter-to, hears, next, refused, Step}
-use Rattle.desks.specs.Machine.{is-open, says, refusal, step-own}
+use Rattle.desks.specs.Run.{Event, opens, said, letter-to, hears, next, Step}
+use Rattle.desks.specs.Machine.{is-open, refusal, step-own}
 use Rattle.desks.specs.Entry.{own, event-of, Act-told, Step-says, step-fits}
 use Rattle.desks.specs.Says.{Quiet, Showing, Sending}
 use Rattle.desks.specs.declared.Told.{Told}

@@ -1,15 +1,13 @@
 -- When the machine refuses: its number for each event, by what the checks found.
-use mathlib.Core.Path.{_≡_, refl, sym, ap, ap₂, subst, _∙_}
+use mathlib.Core.Path.{_≡_, refl, sym, ap, ap₂, _∙_}
 use mathlib.Core.Bool.{Bool, true, false, _&&_, not}
 use mathlib.Core.List.{List}
-use Prim.Native.Nat.{ℕ, suc, _+_, _≤_, _<_}
+use Prim.Native.Nat.{ℕ, _<_}
 use native.Mathlib.Omega.{arith}
 use lib.Dec.{eqb, ltb}
 use lib.ListN.{getD}
 use Rattle.std.proofs.shelf.Tests.{ltb-true, eqb-false, ne-eqb, lt-ltb, le-ltb}
 use Rattle.ops.specs.Doc.{pick, Command, insert, strike, write-under, add-to, show-text, show-key}
-use Rattle.ops.specs.Layout.{made-cell, low}
-use Rattle.ops.specs.Log.{kept, highest-up-to}
 use Rattle.messages.specs.Letter.{is-letter}
 use Rattle.desks.specs.Run.{opens, said, letter-to, hears, next}
 use Rattle.desks.specs.Machine.{is-open, me, is-peer, is-small, has-room, refusal-said, refusal}

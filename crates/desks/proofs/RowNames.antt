@@ -1,8 +1,8 @@
 -- The newest of ids in a row, one further.
 use mathlib.Core.Path.{_≡_, refl, sym, ap, _∙_}
-use mathlib.Core.Bool.{Bool, true, false}
+use mathlib.Core.Bool.{true, false}
 use mathlib.Core.List.{List, [], _∷_}
-use Prim.Native.Nat.{ℕ, zero, suc, _+_, _*_, _-_, _/_, _%_, _≤_, _<_}
+use Prim.Native.Nat.{ℕ, suc, _+_, _*_, _-_, _/_, _%_, _≤_, _<_}
 use native.Mathlib.Omega.{arith}
 use native.Mathlib.Nat.{add-zero}
 use native.Mathlib.Numerals.{add-one}
@@ -11,7 +11,6 @@ use lib.Seq.{getD-drop, drop-drop}
 use borrow.Author.Tests.{eq-eqb, ne-eqb}
 use Rattle.ops.specs.Doc.{pick, Id, id, id-before}
 use Rattle.desks.specs.Entry.{newest-at, newest-of, Newest-says, are-names, name-at}
-use Rattle.desks.specs.declared.Reply.{Reply}
 use Rattle.desks.specs.declared.Reply.the-variants.{At, None, Refused}
 
 newest-on : (xs : List ℕ) (n p i : ℕ) (b : Id) → i < n → newest-at (n - i) p i b (drop (i * 2) xs) ≡ pick (id-before b (name-at xs i)) (newest-at (n - (i + 1)) i (i + 1) (name-at xs i) (drop ((i + 1) * 2) xs)) (newest-at (n - (i + 1)) p (i + 1) b (drop ((i + 1) * 2) xs))

@@ -1,16 +1,14 @@
 -- One operation beside a key, case by case: what it adds to the tally, and whether its word is the newest so far.
 use mathlib.Core.Path.{_≡_, refl, sym, ap, _∙_}
-use mathlib.Core.Bool.{Bool, true, false}
-use mathlib.Core.List.{List, [], _∷_, _++_}
+use mathlib.Core.Bool.{true, false}
+use mathlib.Core.List.{List, [], _∷_}
 use Prim.Native.Nat.{ℕ, _+_}
-use native.Mathlib.Omega.{arith}
-use lib.Dec.{eqb}
 use borrow.Author.Tests.{eq-eqb, ne-eqb}
 use Rattle.std.specs.declared.option.Option.{Option}
 use Rattle.std.specs.declared.option.Option.the-variants.{Some, None}
 use Rattle.ops.specs.Doc as doc
-use Rattle.ops.specs.Doc.{pick, added-up, count-of, count-at, is-under, id-before, under, word-at, first-word, word-of}
-use Rattle.ops.specs.Log.{op-at, firsts, ops-of}
+use Rattle.ops.specs.Doc.{pick, added-up, count-of, count-at, is-under, id-before, word-at, first-word, word-of}
+use Rattle.ops.specs.Log.{op-at, firsts}
 use Rattle.ops.specs.Values.{id-of, kind-of, op-of}
 use Rattle.ops.specs.declared.types.Kind.{Kind}
 use Rattle.ops.specs.declared.types.Kind.the-variants.{Insert, Delete, Write, Add}

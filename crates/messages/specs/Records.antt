@@ -1,7 +1,7 @@
 -- An operation as a record of 16 bytes: its number (4), its desk, its kind, the desk of the operation that it is about, a byte that is 0, and two values (4 each).
-use mathlib.Core.Bool.{Bool, true, false, _&&_}
+use mathlib.Core.Bool.{Bool, true, _&&_}
 use mathlib.Core.List.{List, [], _∷_, _++_}
-use Prim.Native.Nat.{ℕ, zero, suc, _+_, _*_, _/_, _%_, _<_}
+use Prim.Native.Nat.{ℕ, zero, suc, _+_, _*_, _%_, _<_}
 use lib.Dec.{eqb, ltb}
 use Rattle.ops.specs.Doc as doc
 use Rattle.ops.specs.Doc.{pick, id, put-in, struck, under, added}

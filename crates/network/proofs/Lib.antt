@@ -45,3 +45,4 @@ pub mod OwnLetters
 pub mod OwnOpening
 pub mod OwnSteady
 pub mod Own
+pub mod OwnRefusals

@@ -1,5 +1,4 @@
 -- The machine obeys the laws of one desk, so all desks together are right in any run.
-use Prim.Native.Nat.{ℕ}
 use native.Mathlib.Omega.{arith}
 use Rattle.ops.specs.Doc.{core}
 use Rattle.messages.specs.Letter.{most-records}

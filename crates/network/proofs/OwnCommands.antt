@@ -1,22 +1,21 @@
 -- The machine's answers to commands are the paper's, for the log that its memory stands for.
-use mathlib.Core.Path.{_≡_, refl, sym, ap, ap₂, subst, _∙_}
+use mathlib.Core.Path.{_≡_, refl, sym, ap, subst, _∙_}
 use mathlib.Core.Bool.{Bool, true, false}
 use mathlib.Core.List.{List, [], _∷_, _++_}
 use Prim.Native.Nat.{ℕ, suc, _+_, _%_, _≤_, _<_}
 use native.Mathlib.Omega.{arith}
-use lib.Dec.{eqb, ltb, leb}
+use lib.Dec.{ltb, leb}
 use lib.ListN.{length, getD, set, length-append, length-set}
 use lib.Seq.{getD-set-same, getD-set-other}
-use Rattle.std.proofs.shelf.Tests.{ltb-true, leb-true, leb-false, lt-ltb, le-ltb, eq-eqb, and-parts, and-left, both-ways}
+use Rattle.std.proofs.shelf.Tests.{ltb-true, leb-true, leb-false, lt-ltb, eq-eqb, and-parts, both-ways}
 use mathlib.Core.Logic.{⊎-elim}
 use Rattle.ops.specs.Doc.{pick, id, Op, Kind, under, added, Command, insert, strike, write-under, add-to, show-text, show-key, Turn, turn, do-it, deed-by, no, yes-with, small-command, core, word-at, count-at, made-by, highest}
-use Rattle.ops.specs.Version.{version}
-use Rattle.ops.specs.Layout.{made-cell, key-cell, memory-size, low}
-use Rattle.ops.specs.Log.{kept, ops-of, appended, highest-up-to}
+use Rattle.ops.specs.Layout.{made-cell, key-cell, low}
+use Rattle.ops.specs.Log.{kept, appended, highest-up-to}
 use Rattle.ops.proofs.Frames.{append-other}
-use Rattle.messages.specs.Records.{Small-kind, Small-op}
-use Rattle.desks.specs.Run.{Event, said, next, shows, done, refused, Ran, ran, runs-on}
-use Rattle.desks.specs.Machine.{is-open, me, is-small, has-room, says, idle, deed, does-said, goes-on, does, refusal, step-own}
+use Rattle.messages.specs.Records.{Small-kind}
+use Rattle.desks.specs.Run.{said, next, shows, done, refused, Ran, ran, runs-on}
+use Rattle.desks.specs.Machine.{is-open, me, has-room, says, idle, deed, does-said, goes-on, does, refusal, step-own}
 use Rattle.desks.specs.Entry.{own}
 use Rattle.desks.proofs.Refusals.{write-small, add-small, key-small-shown, next-well, unknown-insert, unknown-strike, unknown-text}
 use Rattle.desks.proofs.Telling.{accepts, refuses}

@@ -1,24 +1,21 @@
 -- The machine's letters carry its version vector and what the other isn't known to know, and reading one takes just that.
 use mathlib.Core.Path.{_≡_, refl, sym, ap, ap₂, subst, _∙_}
-use mathlib.Core.Bool.{Bool, true, false, _&&_}
-use mathlib.Core.List.{List, [], _∷_, _++_}
+use mathlib.Core.Bool.{true}
+use mathlib.Core.List.{List, [], _∷_}
 use mathlib.Core.Logic.{⊎-elim}
-use Prim.Native.Nat.{ℕ, suc, _+_, _*_, _≤_, _<_}
+use Prim.Native.Nat.{ℕ, suc, _<_}
 use native.Mathlib.Omega.{arith}
-use lib.Dec.{eqb, ltb, leb}
-use lib.ListN.{length, getD, take, length-take}
+use lib.Dec.{ltb, leb}
+use lib.ListN.{length, getD, length-take}
 use Rattle.std.proofs.shelf.Tests.{le-leb, and-from}
-use Rattle.ops.specs.Doc.{pick, larger, every, none-of, Op}
+use Rattle.ops.specs.Doc.{every, none-of, Op}
 use Rattle.ops.specs.Version.{version, newer-than}
-use Rattle.ops.specs.Layout.{memory-size}
 use Rattle.ops.proofs.Members.{In, take-in}
-use Rattle.messages.specs.Bytes.{byte, number-at}
-use Rattle.messages.specs.Records.{Small-op, records}
 use Rattle.messages.specs.Letter.{most-records, letter-of, letter-for, is-letter, noted, delivered, received}
 use Rattle.messages.specs.RoundTrip.{Decoded}
 use Rattle.messages.proofs.RoundTrip.{decoded}
-use Rattle.desks.specs.Run.{letter-to, hears, next, sends, done, Ran, ran, a-letter, runs-on, made-well, read-well, first-letter}
-use Rattle.desks.specs.Machine.{me, says, idle, does, step-own, refusal}
+use Rattle.desks.specs.Run.{letter-to, hears, sends, done, Ran, ran, a-letter, runs-on, made-well, read-well, first-letter}
+use Rattle.desks.specs.Machine.{me, says, idle, does, step-own}
 use Rattle.desks.specs.Entry.{own}
 use Rattle.desks.proofs.Refusals.{letter-well, hears-by}
 use Rattle.desks.proofs.Telling.{accepts}

@@ -1,19 +1,19 @@
 -- A machine that is told which desk it is stands for an empty log.
 use mathlib.Core.Path.{_≡_, refl, sym, ap, subst, _∙_}
 use mathlib.Core.Bool.{true}
-use mathlib.Core.List.{List, [], _∷_}
-use Prim.Native.Nat.{ℕ, suc, _≤_, _<_}
+use mathlib.Core.List.{List, []}
+use Prim.Native.Nat.{ℕ, suc, _<_}
 use native.Mathlib.Omega.{arith}
-use lib.ListN.{length, getD, set, replicate, getD-replicate, length-set, length-replicate}
+use lib.ListN.{length, set, replicate, getD-replicate, length-set, length-replicate}
 use lib.Seq.{getD-set-same, getD-set-other}
 use Rattle.ops.specs.Layout.{memory-size}
-use Rattle.desks.specs.Run.{opens, done, Ran, ran, runs-on, read-well}
+use Rattle.desks.specs.Run.{opens, done, Ran, runs-on, read-well}
 use Rattle.desks.specs.Promise.{opened}
 use Rattle.desks.specs.Machine.{says, idle, does, step-own, blank}
 use Rattle.desks.specs.Entry.{own}
 use Rattle.desks.proofs.Refusals.{opens-well}
 use Rattle.desks.proofs.Telling.{accepts}
-use Rattle.network.proofs.Keeping.{Keeps, keeps-blank, blank-length}
+use Rattle.network.proofs.Keeping.{keeps-blank}
 use Rattle.network.proofs.OwnRep.{Rep}
 use Rattle.network.proofs.OwnRuns.{own-done}
 use Rattle.network.proofs.OwnLetters.{well-read}

@@ -1,20 +1,20 @@
 -- The machine is steady: its memory never grows, nor do its numbers, whatever it is told and whatever stood there.
-use mathlib.Core.Path.{_≡_, refl, sym, ap, subst, _∙_}
+use mathlib.Core.Path.{_≡_, refl, _∙_}
 use mathlib.Core.Bool.{Bool, true, false, _&&_}
 use mathlib.Core.List.{List, [], _∷_}
-use Prim.Native.Nat.{ℕ, zero, suc, _+_, _-_, _%_, _≤_, _<_}
+use Prim.Native.Nat.{ℕ, zero, suc, _-_, _<_}
 use native.Mathlib.Omega.{arith}
 use lib.Dec.{eqb, ltb}
 use lib.ListN.{length, getD, set, replicate, length-set}
 use Rattle.std.proofs.shelf.Tests.{and-parts, ltb-true, eqb-true}
-use Rattle.ops.specs.Doc.{pick, every, Kind, under, added, Command, insert, strike, write-under, add-to, show-text, show-key, word-at, count-at}
+use Rattle.ops.specs.Doc.{pick, every, Kind, under, added, Command, insert, strike, write-under, add-to, show-text, show-key, count-at}
 use Rattle.ops.specs.Layout.{made-cell, key-cell, memory-size, low}
 use Rattle.ops.specs.Log.{kept, ops-of, appended, highest-up-to}
 use Rattle.ops.proofs.Stores.{fits, every-set}
-use Rattle.messages.specs.Records.{Small-kind, Small-op}
-use Rattle.messages.specs.Letter.{letter-for, is-letter, received}
+use Rattle.messages.specs.Records.{Small-kind}
+use Rattle.messages.specs.Letter.{letter-for, received}
 use Rattle.desks.specs.Run.{Event, opens, said, letter-to, hears, next, Act, shows, sends, done, refused, Step, Steady, all-small}
-use Rattle.desks.specs.Machine.{is-open, me, is-peer, is-small, has-room, refusal-said, refusal, says, idle, deed, does-said, goes-on, does, step-own, blank}
+use Rattle.desks.specs.Machine.{is-open, me, is-small, has-room, refusal-said, refusal, says, idle, deed, does-said, goes-on, does, step-own, blank}
 use Rattle.desks.specs.Entry.{own}
 use Rattle.desks.proofs.Sizes.{own-length}
 use Rattle.ops.proofs.Frames.{append-length}

@@ -29,12 +29,6 @@ module _ (e : Engine) (m : List ℕ) (ev : Event) where
       ∙ (ap (λ t. pick t (runs 2 e m₁ next [] (b ∷ [])) (ran m₁ [] [] 1001)) (and-from (a-letter b) true t refl)
       ∙ ap (λ a. one-act (λ m₂ ss₂ ls₂. runs 1 e m₂ next ss₂ ls₂) [] (b ∷ []) (e .step m₁ next .memory) a) q)
 
-  pub run-shows : (s : List ℕ) → e .step m ev .act ≡ shows s → e .step m₁ next .act ≡ done → runs-on 3 e m ev ≡ ran (e .step m₁ next .memory) (s ∷ []) [] 0
-  unfolding runs one-act
-  run-shows s p q =
-      ap (λ a. one-act (λ m₂ ss₂ ls₂. runs 2 e m₂ next ss₂ ls₂) [] [] m₁ a) p
-      ∙ ap (λ a. one-act (λ m₂ ss₂ ls₂. runs 1 e m₂ next ss₂ ls₂) (s ∷ []) [] (e .step m₁ next .memory) a) q
-
   pub run-shows-two : (s t : List ℕ) → e .step m ev .act ≡ shows s → e .step m₁ next .act ≡ shows t → e .step (e .step m₁ next .memory) next .act ≡ done →
       runs-on 3 e m ev ≡ ran (e .step (e .step m₁ next .memory) next .memory) (s ∷ t ∷ []) [] 0
   unfolding runs one-act

@@ -1,4 +1,5 @@
 pub mod Said
 pub mod Refused
 pub mod Page
+pub mod Declined
 pub mod Statements

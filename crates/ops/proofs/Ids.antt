@@ -1,14 +1,14 @@
 -- Operation ids are in a line, and the paper's tests on ids, kinds and operations are equality.
 use mathlib.Core.Path.{_≡_, refl, sym, ap, ap₂, subst, _∙_}
 use mathlib.Core.Logic.{_⊎_, inl, inr}
-use mathlib.Core.Bool.{Bool, true, false, _&&_, not}
-use mathlib.Core.List.{List, [], _∷_, _++_}
-use Prim.Native.Nat.{ℕ, zero, suc, _≤_, _<_}
+use mathlib.Core.Bool.{Bool, true, false, _&&_}
+use mathlib.Core.List.{List}
+use Prim.Native.Nat.{_<_}
 use native.Mathlib.Omega.{arith}
-use lib.Dec.{eqb, ltb, leb}
-use Rattle.std.proofs.shelf.Tests.{ltb-true, eqb-true, lt-ltb, le-ltb, eq-eqb, and-parts, and-from, both-ways, cases-bool, cases-order}
-use Rattle.ops.specs.Doc.{pick, every, any, Id, id, begin, same-id, id-before, Kind, put-in, struck, under, added, Op, same-kind, same-op}
-use Rattle.ops.proofs.Members.{In, not-true-false, in-any, any-in, every-in, in-every}
+use lib.Dec.{eqb, ltb}
+use Rattle.std.proofs.shelf.Tests.{ltb-true, eqb-true, lt-ltb, le-ltb, eq-eqb, and-parts, and-from, both-ways, cases-order}
+use Rattle.ops.specs.Doc.{pick, every, any, Id, same-id, id-before, Kind, put-in, struck, under, added, Op, same-kind, same-op}
+use Rattle.ops.proofs.Members.{In, in-any, any-in, every-in, in-every}
 
 pub id-path : (a b : Id) → a .n ≡ b .n → a .who ≡ b .who → a ≡ b
 id-path a b p q = λ i. record { n = p i; who = q i }
@@ -20,12 +20,6 @@ same-id-eq a b h =
 
 pub eq-same-id : (a b : Id) → a ≡ b → same-id a b ≡ true
 eq-same-id a b h = and-from (eqb (a .n) (b .n)) (eqb (a .who) (b .who)) (eq-eqb (a .n) (b .n) (ap (λ (x : Id). x .n) h)) (eq-eqb (a .who) (b .who) (ap (λ (x : Id). x .who) h))
-
-pub ne-same-id : (a b : Id) → (a ≡ b → ⊥) → same-id a b ≡ false
-ne-same-id a b h = not-true-false (same-id a b) (λ e. h (same-id-eq a b e))
-
-pub cases-id : (a b : Id) → (a ≡ b) ⊎ (a ≡ b → ⊥)
-cases-id a b = elim (cases-bool (same-id a b)) [ inl e ↦ inl (same-id-eq a b e) | inr e ↦ inr (λ p. both-ways (same-id a b) e (eq-same-id a b p)) ]
 
 abbrev pub Before : Id → Id → Type 0
 Before a b = (a .n < b .n) ⊎ ((a .n ≡ b .n) × (a .who < b .who))

@@ -1,7 +1,7 @@
 -- Members of lists: what the tests of the plain paper (`every`, `any`, `those`) say in terms of membership.
 use mathlib.Core.Path.{_≡_, refl, sym, ap, ap₂, _∙_}
 use mathlib.Core.Logic.{_⊎_, inl, inr}
-use mathlib.Core.Bool.{Bool, true, false, _&&_, not}
+use mathlib.Core.Bool.{Bool, true, false}
 use mathlib.Core.List.{List, [], _∷_, _++_}
 use Prim.Native.Nat.{ℕ, zero, suc}
 use lib.ListN.{take}
@@ -131,12 +131,6 @@ module _ {A : Type 0} where
   take-in (suc n) (x ∷ xs) y (inr m) = inr (take-in n xs y m)
 
 module _ {A B : Type 0} (g : A → List B) where
-  pub in-flat : (xs : List A) (x : A) (y : B) → In x xs → In y (g x) → In y (flat g xs)
-  unfolding flat
-  in-flat [] x y m h = absurd m
-  in-flat (z ∷ xs) x y (inl e) h = in-left (g z) (flat g xs) y (rw e at h)
-  in-flat (z ∷ xs) x y (inr m) h = in-right (g z) (flat g xs) y (in-flat xs x y m h)
-
   flat-go : (z : A) (xs : List A) (y : B) → (In y (flat g xs) → (x : A) × In x xs × In y (g x)) → In y (g z) ⊎ In y (flat g xs) → (x : A) × In x (z ∷ xs) × In y (g x)
   flat-go z xs y ih (inl a) = (z, inl refl, a)
   flat-go z xs y ih (inr b) = let r = ih b in (r .0, inr (r .1), r .2)

@@ -1,6 +1,6 @@
 -- An operation's six cells: what is written there, and the operation that is read again.
 use mathlib.Core.Path.{_≡_, refl, sym, ap, subst, _∙_}
-use mathlib.Core.Bool.{true, false}
+use mathlib.Core.Bool.{true}
 use mathlib.Core.List.{List, [], _∷_}
 use Prim.Native.Nat.{ℕ, suc, max, _+_, _%_, _≤_, _<_}
 use native.Mathlib.Omega.{arith}

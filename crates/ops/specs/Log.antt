@@ -1,5 +1,4 @@
 -- The log in a desk's memory: whatever numbers stand there are read as a list of operations. Appending is all that is ever done to it.
-use mathlib.Core.Bool.{Bool, true, false}
 use mathlib.Core.List.{List, [], _∷_, _++_}
 use Prim.Native.Nat.{ℕ, zero, suc, min, max, _+_, _%_}
 use lib.Dec.{eqb, ltb}

@@ -1,5 +1,4 @@
 -- Version vectors: for each desk the highest number among its operations, and what a log has that a version vector doesn't cover.
-use mathlib.Core.Bool.{Bool, true, false}
 use mathlib.Core.List.{List, [], _∷_}
 use Prim.Native.Nat.{ℕ}
 use lib.Dec.{eqb, ltb}

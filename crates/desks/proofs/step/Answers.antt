@@ -1,5 +1,3 @@
-use mathlib.Core.Path.{refl}
-use Prim.Native.Nat.{_≤_}
 use native.Mathlib.Omega.{arith}
 use borrow.Author.Needs.{needs}
 use Rattle.desks.proofs.Sizes.{fits-memory, fits-kind, fits-row, fits-out}

@@ -1,8 +1,7 @@
 use mathlib.Core.Path.{_≡_, ap, _∙_}
-use Prim.Native.Nat.{_+_, _<_, _≤_}
+use Prim.Native.Nat.{_+_}
 use native.Mathlib.Omega.{arith}
 use Rattle.ops.specs.Doc.{count-of, count-at}
-use Rattle.ops.specs.Log.{kept}
 use Rattle.ops.specs.Values.{kind-of, held}
 use Rattle.ops.proofs.Scans.{firsts-all, kept-few}
 use Rattle.keys.proofs.Cases.{count-none, count-on}

@@ -1,7 +1,5 @@
-use mathlib.Core.Path.{_≡_, refl, sym, ap, _∙_}
-use Prim.Native.Nat.{_+_, _<_, _≤_}
+use mathlib.Core.Path.{sym, ap, _∙_}
 use native.Mathlib.Omega.{arith}
-use Rattle.ops.specs.Log.{kept}
 use Rattle.ops.specs.Values.{held}
 use Rattle.ops.proofs.Scans.{firsts-all, kept-few}
 use Rattle.keys.specs.Newest.{found-op}

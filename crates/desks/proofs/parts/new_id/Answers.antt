@@ -1,6 +1,4 @@
-use mathlib.Core.Path.{_≡_, refl, sym, ap, subst, _∙_}
-use native.Mathlib.Omega.{arith}
-use Rattle.std.specs.declared.option.Option.the-variants.{None}
+use mathlib.Core.Path.{refl}
 use Rattle.desks.proofs.Acting.{room-there, no-room-made, no-room-kept, no-room-number, new-id}
 use Rattle.desks.proofs.parts.new_id.Needs as need
 

@@ -1,9 +1,6 @@
-use mathlib.Core.Path.{refl, ap, _∙_}
-use lib.ListN.{set}
-use Rattle.ops.specs.Values.{held}
+use mathlib.Core.Path.{refl, _∙_}
 use Rattle.desks.specs.Run.{opens}
-use Rattle.desks.specs.Machine.{idle}
-use Rattle.desks.proofs.Refusals.{opens-no-desk, opens-again, opens-well}
+use Rattle.desks.proofs.Refusals.{opens-no-desk, opens-again}
 use Rattle.desks.proofs.Telling.{quiet-no}
 use Rattle.desks.proofs.Acting.{opened}
 use Rattle.desks.proofs.parts.open.Needs as need

@@ -1,8 +1,5 @@
-use mathlib.Core.Path.{refl, sym, _∙_}
-use Prim.Native.Nat.{_<_}
+use mathlib.Core.Path.{refl}
 use native.Mathlib.Omega.{arith}
-use Rattle.ops.specs.Log.{kept}
-use Rattle.ops.specs.Values.{held}
 use Rattle.ops.proofs.Slots.{kind-0, kind-1, kind-2, kind-3, op-is}
 use Rattle.ops.proofs.types.Memory.operation.Needs as need
 

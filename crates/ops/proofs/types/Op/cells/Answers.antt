@@ -1,4 +1,3 @@
-use mathlib.Core.Path.{refl}
 use Rattle.ops.specs.Log.{row-of}
 use Rattle.ops.proofs.Slots.{cells-by}
 use Rattle.ops.proofs.types.Op.cells.Needs as need

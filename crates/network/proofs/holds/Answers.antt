@@ -7,8 +7,9 @@ use Rattle.network.proofs.Keys.{counts-added}
 use Rattle.network.proofs.OneMore.{new-names}
 use Rattle.network.proofs.Commands.{said}
 use Rattle.network.proofs.Refusals.{refused}
+use Rattle.network.proofs.OwnRefusals.{declined}
 use Rattle.network.proofs.Worked.{page-reads}
-use Rattle.network.proofs.paper.holds.Needs as need
+use Rattle.network.proofs.holds.Needs as need
 
 pub returns-in-AnyOrder : need.returns-in-AnyOrder
 returns-in-AnyOrder c = (refl, subst Statement (sym (c .in-AnyOrder .is)) any-order)
@@ -36,3 +37,6 @@ returns-in-RoundTrip c = (refl, subst Statement (sym (c .in-RoundTrip .is)) deco
 
 pub returns-in-OnlyFor : need.returns-in-OnlyFor
 returns-in-OnlyFor c = (refl, subst Statement (sym (c .in-OnlyFor .is)) only-for)
+
+pub returns-in-Declined : need.returns-in-Declined
+returns-in-Declined c = (refl, subst Statement (sym (c .in-Declined .is)) declined)

@@ -1,5 +1,5 @@
 -- What the machine does when it doesn't refuse, as the code does it: the memory after, and what is told.
-use mathlib.Core.Path.{_≡_, refl, sym, ap, subst, _∙_}
+use mathlib.Core.Path.{_≡_, refl, sym, ap, ap₂, subst, _∙_}
 use mathlib.Core.Bool.{Bool, true, false, _&&_}
 use mathlib.Core.List.{List, [], _∷_, _++_}
 use Prim.Native.Nat.{ℕ, suc, _+_, _≤_, _<_}
@@ -57,48 +57,45 @@ pub new-id : (n high : ℕ) (m : List ℕ) (d : ℕ) → high ≡ highest-up-to 
 new-id n high m d e f = let g : n ≡ suc (highest-up-to 32 m) = omega arith in λ i. id (g i) d
 
 -- A DEED
-pub performed : (m m₁ m₂ : Memory) (i : doc.Id) (d : ℕ) (k : doc.Kind) → Holds m m₁ (idle (held m)) → (has-room (held m) d ≡ true) × (i ≡ id (suc (highest-up-to 32 (held m))) d) →
-    Holds m₁ m₂ (appended (held m₁) (record { name = i; kind = k })) → Holds m m₂ (appended (idle (held m)) (deed (held m) d k))
-performed m m₁ m₂ i d k h r a =
-    record { after = a .after ∙ (λ j. appended (h .after j) (record { name = r .1 j; kind = k })); same = a .same ∙ h .same }
+pub performed : (m m₁ m₂ : Memory) (o : doc.Op) → Holds m m₁ (idle (held m)) → Holds m₁ m₂ (appended (held m₁) o) → Holds m m₂ (appended (idle (held m)) o)
+performed m m₁ m₂ o h a = record { after = a .after ∙ ap (λ l. appended l o) (h .after); same = a .same ∙ h .same }
 
-not-true-false : (b : Bool) → (b ≡ true → ⊥) → false ≡ b
+not-true-false : (b : Bool) → (b ≡ true → ⊥) → b ≡ false
 not-true-false true f = absurd (f refl)
 not-true-false false f = refl
 
-pub no-room-false : (m : List ℕ) (d : ℕ) → (has-room m d ≡ true → ⊥) → false ≡ has-room m d
+pub no-room-false : (m : List ℕ) (d : ℕ) → (has-room m d ≡ true → ⊥) → has-room m d ≡ false
 no-room-false m d h = not-true-false (has-room m d) h
 
 -- a write and an add, as far as they differ only in the kind
-module _ (m m₁ : Memory) (a b x y d : ℕ) (o : 0 < getD (held m) 0 0) (ed : d ≡ me (held m)) (ha : (a < 4294967296) × (x ≡ a)) (hb : (b < 4294967296) × (y ≡ b)) (r : Bool) (er : r ≡ has-room (held m) d) where
-  room-here : has-room (held m) (me (held m)) ≡ r
-  room-here = sym (er ∙ ap (has-room (held m)) ed)
+module _ (m : Memory) (a b x y d : ℕ) (o : 0 < getD (held m) 0 0) (ed : d ≡ me (held m)) (ha : (a < 4294967296) × (x ≡ a)) (hb : (b < 4294967296) × (y ≡ b)) where
+  room-here : (t : Bool) → has-room (held m) d ≡ t → has-room (held m) (me (held m)) ≡ t
+  room-here t e = ap (has-room (held m)) (sym ed) ∙ e
 
-  pub write-done : r ≡ true → Holds m m₁ (pick r (appended (idle (held m)) (deed (held m) d (under x y))) (held m)) → Quiet (step-own (held m) (said (write-under a b))) Done m m₁
-  unfolding does does-said
-  write-done t h =
-      quiet-done m m₁ (said (write-under a b)) (appended (idle (held m)) (deed (held m) (me (held m)) (under a b)))
-      (write-small (held m) a b o r (ha .0) (hb .0) room-here ∙ ap (λ q. pick q 0 7) t) refl
-      (subst (λ l. Holds m m₁ l) (λ i. pick (t i) (appended (idle (held m)) (deed (held m) (ed i) (under (ha .1 i) (hb .1 i)))) (held m)) h)
+  module _ (m₁ : Memory) (i : doc.Id) (r : (has-room (held m) d ≡ true) × (i ≡ id (suc (highest-up-to 32 (held m))) d)) where
+    made-here : (k k₁ : doc.Kind) → k ≡ k₁ → Holds m m₁ (appended (idle (held m)) (record { name = i; kind = k })) → Holds m m₁ (appended (idle (held m)) (deed (held m) (me (held m)) k₁))
+    made-here k k₁ e h = subst (λ l. Holds m m₁ l) (λ j. appended (idle (held m)) (record { name = named j; kind = e j })) h
+      where
+        named : i ≡ id (suc (highest-up-to 32 (held m))) (me (held m))
+        named = r .1 ∙ ap (id (suc (highest-up-to 32 (held m)))) ed
 
-  pub add-done : r ≡ true → Holds m m₁ (pick r (appended (idle (held m)) (deed (held m) d (added x y))) (held m)) → Quiet (step-own (held m) (said (add-to a b))) Done m m₁
-  unfolding does does-said
-  add-done t h =
-      quiet-done m m₁ (said (add-to a b)) (appended (idle (held m)) (deed (held m) (me (held m)) (added a b)))
-      (add-small (held m) a b o r (ha .0) (hb .0) room-here ∙ ap (λ q. pick q 0 7) t) refl
-      (subst (λ l. Holds m m₁ l) (λ i. pick (t i) (appended (idle (held m)) (deed (held m) (ed i) (added (ha .1 i) (hb .1 i)))) (held m)) h)
+    pub write-done : Holds m m₁ (appended (idle (held m)) (record { name = i; kind = under x y })) → Quiet (step-own (held m) (said (write-under a b))) Done m m₁
+    unfolding does does-said
+    write-done h =
+        quiet-done m m₁ (said (write-under a b)) (appended (idle (held m)) (deed (held m) (me (held m)) (under a b))) (write-small (held m) a b o true (ha .0) (hb .0) (room-here true (r .0))) refl
+          (made-here (under x y) (under a b) (ap₂ under (ha .1) (hb .1)) h)
 
-  quiet-at : (ev : Event) → refusal (held m) ev ≡ 7 → (k : doc.Kind) → r ≡ false → Holds m m₁ (pick r (appended (idle (held m)) (deed (held m) d k)) (held m)) → Quiet (step-own (held m) ev) (No 7) m m₁
-  quiet-at ev e k t h =
-      let q = quiet-no m ev 6 e in
-      let g : Holds m m₁ (held m) = subst (λ z. Holds m m₁ (pick z (appended (idle (held m)) (deed (held m) d k)) (held m))) t h in
-      record { after = record { after = g .after ∙ q .after .after; same = g .same }; tells = q .tells }
+    pub add-done : Holds m m₁ (appended (idle (held m)) (record { name = i; kind = added x y })) → Quiet (step-own (held m) (said (add-to a b))) Done m m₁
+    unfolding does does-said
+    add-done h =
+        quiet-done m m₁ (said (add-to a b)) (appended (idle (held m)) (deed (held m) (me (held m)) (added a b))) (add-small (held m) a b o true (ha .0) (hb .0) (room-here true (r .0))) refl
+          (made-here (added x y) (added a b) (ap₂ added (ha .1) (hb .1)) h)
 
-  pub write-full : r ≡ false → Holds m m₁ (pick r (appended (idle (held m)) (deed (held m) d (under x y))) (held m)) → Quiet (step-own (held m) (said (write-under a b))) (No 7) m m₁
-  write-full t h = quiet-at (said (write-under a b)) (write-small (held m) a b o r (ha .0) (hb .0) room-here ∙ ap (λ q. pick q 0 7) t) (under x y) t h
+  pub write-full : (has-room (held m) d ≡ true → ⊥) → Quiet (step-own (held m) (said (write-under a b))) (No 7) m m
+  write-full n = quiet-no m (said (write-under a b)) 6 (write-small (held m) a b o false (ha .0) (hb .0) (room-here false (no-room-false (held m) d n)))
 
-  pub add-full : r ≡ false → Holds m m₁ (pick r (appended (idle (held m)) (deed (held m) d (added x y))) (held m)) → Quiet (step-own (held m) (said (add-to a b))) (No 7) m m₁
-  add-full t h = quiet-at (said (add-to a b)) (add-small (held m) a b o r (ha .0) (hb .0) room-here ∙ ap (λ q. pick q 0 7) t) (added x y) t h
+  pub add-full : (has-room (held m) d ≡ true → ⊥) → Quiet (step-own (held m) (said (add-to a b))) (No 7) m m
+  add-full n = quiet-no m (said (add-to a b)) 6 (add-small (held m) a b o false (ha .0) (hb .0) (room-here false (no-room-false (held m) d n)))
 
 -- A KEY SHOWN
 module _ (m m₁ : Memory) (a x : ℕ) (row : List ℕ) (o : 0 < getD (held m) 0 0) (h : (a < 4294967296) × (x ≡ a)) (k : Holds m m₁ (set (set (held m) 1 1) 2 a)) where

@@ -8,9 +8,9 @@ ghost use Rattle.std.specs.Options.{mapped};
 ghost use Rattle.ops.specs.Doc.{pick, id, write-under, add-to, show-key};
 ghost use Rattle.ops.specs.Layout.{desk-cell};
 ghost use Rattle.ops.specs.Log.{appended, highest-up-to};
-ghost use Rattle.ops.specs.Values.{desk-of, id-of, kind-of, held, Holds};
+ghost use Rattle.ops.specs.Values.{desk-of, id-of, op-of, held, Holds};
 ghost use Rattle.desks.specs.Run.{opens, said, letter-to, hears, next};
-ghost use Rattle.desks.specs.Machine.{is-open, me, has-room, step-own, deed, idle};
+ghost use Rattle.desks.specs.Machine.{is-open, me, has-room, step-own, idle};
 ghost use Rattle.desks.specs.Says.{Quiet, Showing, Sending};
 use crate::Told;
 use ops::Desk;
@@ -107,17 +107,12 @@ pub fn refusal_of_unknown(memory: &Memory) -> u64
     UNKNOWN
 }
 
-// One operation more, by this desk.
-fn perform(memory: &mut Memory, desk: Desk, kind: Kind) -> bool
-    ensures room { λ r. ⌜ r ≡ has-room (held (now (memory .entry))) (desk-of desk) ⌝ }
-    ensures after { λ r. ⌜ Holds (now (memory .entry)) (now (memory .exit)) (pick r (appended (idle (held (now (memory .entry)))) (deed (held (now (memory .entry))) (desk-of desk) (kind-of kind))) (held (now (memory .entry)))) ⌝ }
+// One operation more.
+fn perform(memory: &mut Memory, op: Op)
+    ensures { λ _. ⌜ Holds (now (memory .entry)) (now (memory .exit)) (appended (idle (held (now (memory .entry)))) (op-of op)) ⌝ }
 {
-    let Some(id) = new_id(memory, desk) else {
-        return false;
-    };
     memory.cells[PENDING] = 0;
-    memory.append(Op { id, kind });
-    true
+    memory.append(op);
 }
 
 // Writes a word under a key.
@@ -133,11 +128,12 @@ pub fn write(memory: &mut Memory, a: u64, b: u64) -> Told
     let Some(word) = narrow(b) else {
         return Told::No(MALFORMED);
     };
-    if perform(memory, desk, Kind::Write { key, word }) {
-        Told::Done
-    } else {
-        Told::No(NO_ROOM)
-    }
+    let Some(id) = new_id(memory, desk) else {
+        return Told::No(NO_ROOM);
+    };
+    let kind = Kind::Write { key, word };
+    perform(memory, Op { id, kind });
+    Told::Done
 }
 
 // Adds to a key's tally.
@@ -153,11 +149,12 @@ pub fn add(memory: &mut Memory, a: u64, b: u64) -> Told
     let Some(amount) = narrow(b) else {
         return Told::No(MALFORMED);
     };
-    if perform(memory, desk, Kind::Add { key, amount }) {
-        Told::Done
-    } else {
-        Told::No(NO_ROOM)
-    }
+    let Some(id) = new_id(memory, desk) else {
+        return Told::No(NO_ROOM);
+    };
+    let kind = Kind::Add { key, amount };
+    perform(memory, Op { id, kind });
+    Told::Done
 }
 
 // Shows the word under a key; its tally comes next.

@@ -58,7 +58,7 @@ module _ (i : ℕ) (m : List ℕ) (log : List Op) (h : ℕ → ℕ → ℕ) (hi 
 
   no-room : 256 ≤ made-by i log → has-room m (me m) ≡ false
   no-room many =
-      sym (no-room-false m (me m)
+      (no-room-false m (me m)
       (no-room-made m (me m) (made-by i log) (kept m) (highest-up-to 32 m) (sym (ap (λ d. low m (made-cell d)) (me-is i m log h hi r) ∙ r .keeps .made-is i hi)) refl refl many))
 
   -- the operation that the machine makes is the paper's

@@ -1,4 +1,3 @@
-use mathlib.Core.Path.{refl}
 use Rattle.ops.specs.Doc.{write-under}
 use Rattle.desks.specs.Run.{said}
 use Rattle.desks.proofs.Refusals.{said-closed, write-key-large, write-word-large}
@@ -16,12 +15,10 @@ pub returns-in-rest-narrow-2 : need.returns-in-rest-narrow-2
 returns-in-rest-narrow-2 c =
     quiet-no _ (said (write-under (c .args .a) (c .args .b))) 0 (write-word-large _ _ _ (c .in-Some .ensures tt .0) (c .in-Some-narrow .ensures tt .0) (c .in-rest-narrow-2 .ensures tt))
 
-pub returns-then-perform : need.returns-then-perform
-returns-then-perform c =
-    write-done _ _ _ _ _ _ _ (c .in-Some .ensures tt .0) (c .in-Some .ensures tt .1) (c .in-Some-narrow .ensures tt) (c .in-Some-narrow-2 .ensures tt) _ (c .if-perform .ensures tt .room) refl
-    (c .if-perform .ensures tt .after)
+pub returns-in-rest-new-id : need.returns-in-rest-new-id
+returns-in-rest-new-id c =
+    write-full _ _ _ _ _ _ (c .in-Some .ensures tt .0) (c .in-Some .ensures tt .1) (c .in-Some-narrow .ensures tt) (c .in-Some-narrow-2 .ensures tt) (c .in-rest-new-id .ensures tt)
 
-pub returns-else-perform : need.returns-else-perform
-returns-else-perform c =
-    write-full _ _ _ _ _ _ _ (c .in-Some .ensures tt .0) (c .in-Some .ensures tt .1) (c .in-Some-narrow .ensures tt) (c .in-Some-narrow-2 .ensures tt) _ (c .if-perform .ensures tt .room) refl
-    (c .if-perform .ensures tt .after)
+pub returns : need.returns
+returns c =
+    write-done _ _ _ _ _ _ (c .in-Some .ensures tt .0) (c .in-Some .ensures tt .1) (c .in-Some-narrow .ensures tt) (c .in-Some-narrow-2 .ensures tt) _ _ (c .in-Some-new-id .ensures tt) (c .perform .ensures)

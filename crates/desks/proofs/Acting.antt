@@ -83,13 +83,13 @@ module _ (m : Memory) (a b x y d : ℕ) (o : 0 < getD (held m) 0 0) (ed : d ≡ 
     unfolding does does-said
     write-done h =
         quiet-done m m₁ (said (write-under a b)) (appended (idle (held m)) (deed (held m) (me (held m)) (under a b))) (write-small (held m) a b o true (ha .0) (hb .0) (room-here true (r .0))) refl
-          (made-here (under x y) (under a b) (ap₂ under (ha .1) (hb .1)) h)
+        (made-here (under x y) (under a b) (ap₂ under (ha .1) (hb .1)) h)
 
     pub add-done : Holds m m₁ (appended (idle (held m)) (record { name = i; kind = added x y })) → Quiet (step-own (held m) (said (add-to a b))) Done m m₁
     unfolding does does-said
     add-done h =
         quiet-done m m₁ (said (add-to a b)) (appended (idle (held m)) (deed (held m) (me (held m)) (added a b))) (add-small (held m) a b o true (ha .0) (hb .0) (room-here true (r .0))) refl
-          (made-here (added x y) (added a b) (ap₂ added (ha .1) (hb .1)) h)
+        (made-here (added x y) (added a b) (ap₂ added (ha .1) (hb .1)) h)
 
   pub write-full : (has-room (held m) d ≡ true → ⊥) → Quiet (step-own (held m) (said (write-under a b))) (No 7) m m
   write-full n = quiet-no m (said (write-under a b)) 6 (write-small (held m) a b o false (ha .0) (hb .0) (room-here false (no-room-false (held m) d n)))

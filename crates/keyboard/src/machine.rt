@@ -1,8 +1,10 @@
 // The machine with all that is lent to it: a desk's memory, a row for the numbers that it shows, and one for the bytes that it sends.
+ghost use mathlib.Core.List.{_++_};
 ghost use mathlib.Core.Path.{_≡_};
 ghost use lib.ListN.{take};
-ghost use Rattle.std.specs.Of.Vec.{vec-len};
+ghost use Rattle.std.specs.Of.Vec.{vec-len, vec-items};
 ghost use Rattle.std.specs.Vec.{made};
+ghost use Rattle.keyboard.specs.Kept.{shown-of, sent-of};
 use crate::trouble::Trouble;
 use crate::trouble::TroubleFromAlloc;
 use desks::Told;
@@ -82,18 +84,27 @@ impl Machine {
         let mut told = self.step(kind, a, b, letter);
         for _ in 0..MAX_TURNS {
             match told {
-                Told::Shows(n) => reply
-                    .shown
-                    .extend_from_slice(front(self.row.as_slice(), n))?,
-                Told::Sends(n) => reply
-                    .sent
-                    .extend_from_slice(front(self.bytes.as_slice(), n))?,
                 Told::Done => return Ok(reply),
                 Told::No(refusal) => return Err(Trouble::Refused(refusal)),
+                _ => reply.keep(told, self.row.as_slice(), self.bytes.as_slice())?,
             }
             told = self.step(Kind::GoOn, 0, 0, &[]);
         }
         Err(Trouble::NoAnswer)
+    }
+}
+
+impl Reply {
+    // Adds what the machine showed or sent.
+    fn keep(&mut self, told: Told, row: &[u64], bytes: &[u8]) -> Result<(), AllocError>
+        ensures shown { λ r. ⌜ made r (λ _. vec-items (now (self .exit) .shown) ≡ vec-items (now (self .entry) .shown) ++ shown-of told (now (row .entry))) ⌝ }
+        ensures sent { λ r. ⌜ made r (λ _. vec-items (now (self .exit) .sent) ≡ vec-items (now (self .entry) .sent) ++ sent-of told (now (bytes .entry))) ⌝ }
+    {
+        match told {
+            Told::Shows(n) => self.shown.extend_from_slice(front(row, n)),
+            Told::Sends(n) => self.sent.extend_from_slice(front(bytes, n)),
+            _ => Ok(()),
+        }
     }
 }
 

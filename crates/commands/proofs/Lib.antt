@@ -3,4 +3,3 @@ mod Splits
 mod Digits
 mod Signs
 mod Says
-mod Shows

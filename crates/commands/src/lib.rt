@@ -1,4 +1,4 @@
-// A line of text as a command for a desk, and what a desk shows as text. The lines, with one or more spaces between words:
+// A line of text as a command for a desk. The lines, with one or more spaces between words:
 //
 //     i PLACE SIGN     insert a sign          t                show the text
 //     s PLACE          strike a sign          k KEY            show a key
@@ -11,17 +11,13 @@ ghost use mathlib.Core.Path.{_≡_};
 ghost use Prim.Native.Nat.{_+_, _*_, _-_, _^_, _<_};
 ghost use mathlib.Core.Bool.{true};
 ghost use Rattle.std.specs.Numbers.{Checked};
-ghost use Rattle.std.specs.Of.String.{string-bytes};
 ghost use Rattle.std.specs.Text.{asciiDigit};
-ghost use Rattle.std.specs.Vec.{made};
 ghost use Rattle.std.specs.declared.option.Option.the-variants.{Some};
 ghost use Rattle.std.specs.shelf.Text.{decodes};
 ghost use Rattle.commands.specs.Words.{past-spaces, up-to-spaces, first-of, rest-of};
 ghost use Rattle.commands.specs.Numbers.{number-of, only, sign-of};
 ghost use Rattle.commands.specs.Lines.{said, if-said, with-ok, Takes, ended, one-number, two-numbers, number-and-sign, number-and-file, command-of, line-says};
-ghost use Rattle.commands.specs.Texts.{key-text, character, text-of, fault-text};
-use std::alloc::AllocError;
-use std::alloc::Global;
+ghost use Rattle.commands.specs.Texts.{fault-text};
 use std::fmt;
 
 #[derive(Clone, Copy)]
@@ -259,35 +255,4 @@ pub fn parse(line: &str) -> Result<Option<Command<'_>>, Fault>
     let (word, rest) = split_word(text);
     let command = command_from(word, rest)?;
     Ok(Some(command))
-}
-
-// What is shown of a key: the word under it, if there is one, and its tally.
-pub fn key_answer(heap: Global, word: Option<u64>, tally: u64) -> Result<String, AllocError>
-    ensures { λ r. ⌜ made r (λ t. string-bytes t ≡ key-text word tally) ⌝ }
-{
-    match word {
-        Some(word) => format!(heap, "{word}; {tally}"),
-        None => format!(heap, "; {tally}"),
-    }
-}
-
-// The character of a sign; a sign that is no character has U+FFFD.
-fn shown(sign: u64) -> char
-    ensures { λ r. ⌜ r ≡ character sign ⌝ }
-{
-    let Ok(code) = u32::try_from(sign) else {
-        return char::REPLACEMENT_CHARACTER;
-    };
-    char::from_u32(code).unwrap_or(char::REPLACEMENT_CHARACTER)
-}
-
-// What is shown of a text: its signs as characters.
-pub fn text_answer(heap: Global, signs: &[u64]) -> Result<String, AllocError>
-    ensures { λ r. ⌜ made r (λ t. string-bytes t ≡ text-of (now (signs .entry))) ⌝ }
-{
-    let mut text = String::new(heap);
-    for sign in signs {
-        text.push(shown(*sign))?;
-    }
-    Ok(text)
 }

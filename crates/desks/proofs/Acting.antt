@@ -14,8 +14,8 @@ use Rattle.ops.specs.Log.{kept, ops-of, appended, highest-up-to}
 use Rattle.ops.specs.Values.{held, Holds}
 use Rattle.ops.specs.declared.types.Memory.{Memory}
 use Rattle.messages.specs.Letter.{letter-for, is-letter, received}
-use Rattle.desks.specs.Run.{Event, opens, said, letter-to, hears, next, shows, sends, done}
-use Rattle.desks.specs.Machine.{is-small, me, has-room, says, idle, deed, does-said, goes-on, does, step-own, refusal}
+use Rattle.desks.specs.Run.{opens, said, letter-to, hears, next, shows, sends, done}
+use Rattle.desks.specs.Machine.{is-small, me, has-room, says, idle, deed, does-said, goes-on, does, step-own}
 use Rattle.desks.specs.Says.{Quiet, Showing, Sending}
 use Rattle.desks.specs.declared.Told.the-variants.{Shows, Sends, Done, No}
 use Rattle.desks.proofs.Refusals.{opens-well, write-small, add-small, key-small-shown, next-well, letter-well, hears-by}

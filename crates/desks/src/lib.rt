@@ -6,7 +6,7 @@ ghost use mathlib.Core.Path.{_≡_};
 ghost use Prim.Native.Nat.{_+_, _*_, _<_};
 ghost use lib.ListN.{length};
 ghost use Rattle.ops.specs.Doc.{id-before};
-ghost use Rattle.desks.specs.Entry.{Newest-says, are-names, name-at, Step-says, step-fits, smaller};
+ghost use Rattle.desks.specs.Entry.{Newest-says, are-names, name-at, Step-says, step-fits};
 use ops::Memory;
 
 mod parts;
@@ -126,11 +126,4 @@ pub fn step(
         GO_ON => parts::go_on(&mut memory, row),
         _ => Told::No(parts::refusal_of_unknown(&memory)),
     }
-}
-
-// The smaller of two counts.
-pub fn smaller_of(a: u64, b: u64) -> u64
-    ensures { λ r. ⌜ r ≡ smaller a b ⌝ }
-{
-    if a < b { a } else { b }
 }

@@ -70,7 +70,7 @@ fn deed(
 
 fn show_text(rt: &LibcRuntime, machine: &mut Machine) -> Result<Option<String>, Trouble> {
     let reply = machine.tell(rt.alloc(), Kind::ShowText, 0, 0, &[])?;
-    let text = commands::text_answer(rt.alloc(), reply.shown.as_slice())?;
+    let text = answers::text_answer(rt.alloc(), reply.shown.as_slice())?;
     Ok(Some(text))
 }
 
@@ -82,7 +82,7 @@ fn show_key(rt: &LibcRuntime, machine: &mut Machine, key: u64) -> Result<Option<
         [word, tally] => (Some(*word), *tally),
         _ => return Err(Trouble::NoAnswer),
     };
-    let text = commands::key_answer(rt.alloc(), word, tally)?;
+    let text = answers::key_answer(rt.alloc(), word, tally)?;
     Ok(Some(text))
 }
 

@@ -3,7 +3,7 @@ ghost use Prim.Native.Nat.{_<_};
 ghost use lib.Dec.{eqb};
 ghost use Rattle.std.specs.Numbers.{Checked};
 ghost use Rattle.std.specs.Options.{mapped};
-ghost use Rattle.ops.specs.Doc.{id-before, same-id};
+ghost use Rattle.ops.specs.Doc.{id-before};
 ghost use Rattle.ops.specs.Values.{desk-of, id-of};
 use crate::layout::DESKS;
 use crate::types::Desk;
@@ -34,11 +34,5 @@ impl OpId {
         ensures { λ r. ⌜ r ≡ id-before (id-of other) (id-of self) ⌝ }
     {
         other.n < self.n || other.n == self.n && other.desk.number < self.desk.number
-    }
-
-    pub fn is_same(self, other: OpId) -> bool
-        ensures { λ r. ⌜ r ≡ same-id (id-of self) (id-of other) ⌝ }
-    {
-        self.n == other.n && self.desk.is_same(other.desk)
     }
 }

@@ -7,6 +7,8 @@ mod desk;
 #[cfg(test)]
 mod draw;
 #[cfg(test)]
+mod entries;
+#[cfg(test)]
 mod full;
 #[cfg(test)]
 mod junk;

@@ -7,7 +7,7 @@ use native.Mathlib.Omega.{arith}
 use lib.ListN.{length, take, getD}
 use lib.Seq.{take-all}
 use lib.Utf8.{encode}
-use Rattle.commands.specs.Texts.{character, text-of}
+use Rattle.answers.specs.Texts.{character, text-of}
 
 grows : (signs : List ℕ) (i : ℕ) → i < length signs → text-of (take i signs) ++ encode (character (getD signs i 0)) ≡ text-of (take (suc i) signs)
 grows [] i lt = absurd (omega arith)

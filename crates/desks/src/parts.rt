@@ -54,7 +54,11 @@ fn peer_of(desk: Desk, a: u64) -> Option<Desk>
     ensures { λ r. ⌜ Checked (mapped desk-of r) ((a < 32) × (a ≡ desk-of desk → ⊥)) a ⌝ }
 {
     let peer = Desk::new(a)?;
-    if peer.is_same(desk) { None } else { Some(peer) }
+    if peer.number == desk.number {
+        None
+    } else {
+        Some(peer)
+    }
 }
 
 // A number of 32 bits.

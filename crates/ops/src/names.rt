@@ -1,6 +1,6 @@
+// Desks by their numbers, and operation ids in one line.
 ghost use mathlib.Core.Path.{_≡_};
 ghost use Prim.Native.Nat.{_<_};
-ghost use lib.Dec.{eqb};
 ghost use Rattle.std.specs.Numbers.{Checked};
 ghost use Rattle.std.specs.Options.{mapped};
 ghost use Rattle.ops.specs.Doc.{id-before};
@@ -10,6 +10,7 @@ use crate::types::Desk;
 use crate::types::OpId;
 
 impl Desk {
+    // The desk of a number, if there is one.
     pub fn new(number: u64) -> Option<Desk>
         ensures { λ r. ⌜ Checked (mapped desk-of r) (number < 32) number ⌝ }
     {
@@ -21,15 +22,10 @@ impl Desk {
             None
         }
     }
-
-    pub fn is_same(self, other: Desk) -> bool
-        ensures { λ r. ⌜ r ≡ eqb (desk-of self) (desk-of other) ⌝ }
-    {
-        self.number == other.number
-    }
 }
 
 impl OpId {
+    // Of two ids the newer has the higher number; of the same number, the higher desk.
     pub fn is_newer_than(self, other: OpId) -> bool
         ensures { λ r. ⌜ r ≡ id-before (id-of other) (id-of self) ⌝ }
     {

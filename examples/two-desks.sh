@@ -2,6 +2,7 @@
 # Two desks write under the same key without asking each other, carry a letter each way as a file, and then read the same.
 set -eu
 cd "$(dirname "$0")/.."
+echo 'proving and building the keyboard, which takes some minutes the first time ..' >&2
 rt check keyboard > /dev/null || { echo "the keyboard does not build: run 'rt check keyboard' to see why" >&2; exit 1; }
 keyboard=$PWD/target/bin/keyboard
 folder=$(mktemp -d)

@@ -1,4 +1,6 @@
 // What a desk shows, as text: a key's word and tally, and the signs of a text.
+#![tactic(auto)]
+
 ghost use Rattle.std.specs.Prelude.{◌≡◌, IfOk, string_bytes};
 ghost use Rattle.answers.specs.Texts.{key_text, character, text_of};
 

@@ -3,6 +3,8 @@
 //
 // All that changes the desk is in the file BOOK, and on the disk, before it is answered; the next start goes on from there. Without a book the desk is
 // gone when the program ends.
+#![tactic(auto)]
+
 use std::io;
 
 mod arguments;

@@ -3,6 +3,8 @@
 // Every deed that was done, every letter that was made or read is put into the book before anyone learns of it; questions and refusals change nothing,
 // and aren't. A machine does the same whenever it is told the same (`Replays`), so the book told anew gives the memory that the desk had, cell for cell.
 // A book that was cut off within its last entry gives the memory that the desk had before that entry.
+#![tactic(auto)]
+
 ghost use Rattle.std.specs.Prelude.{◌≡◌, true};
 ghost use Rattle.books.specs.Statements.{Statement};
 

@@ -1,6 +1,8 @@
 // CRC-32 (IEEE 802.3) of a message's bytes: a message that was damaged on its way is told from a whole one by it.
 // A table has what eight bit steps make of each byte, so that a byte costs one look-up. Bit steps are linear under xor,
 // and so the low eight bits of the register go through the table while the others only move down.
+#![tactic(auto)]
+
 ghost use Rattle.std.specs.Prelude.{◌≡◌, ◌%◌};
 ghost use Rattle.checksums.specs.Crc.{crc_bits, crc_byte, crc32_of, CheckValue};
 

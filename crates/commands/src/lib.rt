@@ -8,6 +8,8 @@
 // SIGN is one character, or # and its number; FILE is the rest of the line; all else is decimal. A line is read from left to right, and the first
 // thing that is wrong with it is its fault. `specs/Lines.antt` says for every line what is read, and `specs/Printed.antt` how a command is printed as a
 // line, which is read again as the command.
+#![tactic(auto)]
+
 ghost use Rattle.std.specs.Prelude.{◌≡◌, ◌+◌, ◌-◌, ◌*◌, ◌^◌, ◌<◌, true, Some};
 ghost use Rattle.std.specs.Option.{SomeIff};
 ghost use Rattle.std.specs.Char.{is_ascii_digit};

@@ -4,6 +4,8 @@
 // each desk stands a witness: a second paper that has heard of the same deeds, and a plain desk that is told the same. After every event what the desk
 // shows is compared with what its witness says. Which deeds a desk has heard of is read from its version vector; names, words, tallies and refusals are
 // the paper's. A day is a function of its seed and its number, and is kept as lines that another program can play again.
+#![tactic(auto)]
+
 mod bench;
 mod commands;
 mod day;

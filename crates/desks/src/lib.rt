@@ -2,6 +2,8 @@
 //
 // A desk is told something and does one act: one step over its lent memory, which never grows. The step is a definition (specs/Machine.antt), total on
 // every memory of the right length, and `step` does exactly that. All that is promised of desks and letters is proved of the definition.
+#![tactic(auto)]
+
 ghost use Rattle.std.specs.Prelude.{◌≡◌, ◌+◌, ◌*◌, ◌<◌, length};
 ghost use Rattle.ops.specs.Doc.{id_before};
 ghost use Rattle.desks.specs.Entry.{NewestSays, are_names, name_at, StepSays, step_fits};

@@ -1,4 +1,6 @@
 // Files that are written whole or not at all, and read up to a length. What a disk does no contract can say.
+#![tactic(auto)]
+
 use std::fs::File;
 use std::io::{Read, Write};
 use std::path::Path;

@@ -10,6 +10,8 @@
 //     body, 17 to 4113     kind (1), a (8), b (8), letter (the rest, at most 4096)
 //
 // `specs/Book.antt` says of all bytes what is read.
+#![tactic(auto)]
+
 ghost use Rattle.std.specs.Prelude.{◌≡◌, true};
 ghost use Rattle.journals.specs.Statements.{Statement};
 

@@ -1,5 +1,7 @@
 // A desk at the keyboard: `keyboard DESK` reads commands from standard input, one to a line, and tells them to the machine. It prints what the
 // machine shows or refuses, each answer before the next line is read. A line that cannot be obeyed is told on standard error, and changes nothing.
+#![tactic(auto)]
+
 use std::{env, io};
 
 mod machine;

@@ -2,6 +2,8 @@
 //
 // Under each key stands a word, of which the newest by operation id counts (a last-writer-wins register), and a tally, the sum of what was added
 // (an operation-based counter). Both are functions of the log as a set of operations, so the order in which they were heard of does not matter.
+#![tactic(auto)]
+
 ghost use Rattle.std.specs.Prelude.{◌≡◌};
 ghost use Rattle.std.specs.Option.{option_to_list};
 ghost use Rattle.ops.specs.Doc.{count_of, word_at, count_at};

@@ -3,6 +3,8 @@
 // A theorem is asked for only where a contract names it, so these functions have nothing else to say: each answers `true`, and its contract is the
 // theorem. The main one speaks of any run: any deeds at any desks, any letters made and come, any meetings. It is proved once for any machine, from a
 // few laws of one desk and one letter (proofs/Laws.antt), as Gomes and others (2017) prove strong eventual consistency apart from the data type.
+#![tactic(auto)]
+
 ghost use Rattle.std.specs.Prelude.{◌≡◌, true};
 ghost use Rattle.ops.specs.Doc.{core};
 ghost use Rattle.desks.specs.Entry.{own};

@@ -2,6 +2,8 @@
 //
 // A dot is a deed, an arrow a letter, from where it was made to each place where it came: twice, if it came twice. One that never came ends in a cross. A bar
 // between two lines is a meeting. What was shown, or refused, stands as a label under the line.
+#![tactic(auto)]
+
 mod drawing;
 mod escape;
 mod layout;

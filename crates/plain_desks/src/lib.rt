@@ -2,6 +2,8 @@
 //
 // The order of names respects causality, since a deed's number is above those of all deeds that its desk knew of. So a letter is the map from its first
 // name to its last, and whoever takes it in that order knows a sign before anything about it.
+#![tactic(auto)]
+
 use papers::{Command, Deed, Name, Paper, What};
 use std::alloc::{AllocError, Global};
 use std::collections::BTreeMap;

@@ -1,4 +1,6 @@
 // What random days are asked for, the numbers that they draw, and what they came to: pure values, of which contracts say all.
+#![tactic(auto)]
+
 mod asked;
 mod draw;
 mod options;

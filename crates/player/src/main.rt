@@ -1,6 +1,8 @@
 // `player SESSION..` plays session files, each on a room of its own, and prints what desks show. `player SESSION --svg FILE` draws one, too.
 //
 // A line that cannot be played, and an expectation that fails, is said on standard error with its line; the program then ends with status 1.
+#![tactic(auto)]
+
 use std::{env, io};
 
 mod options;

@@ -2,6 +2,8 @@
 //
 // The machine does one act at a time; a replica is told something and lets it go on to the end. What comes of that is the run that the main theorem
 // speaks of (`runs_on`, for the machine `own`), and each method says so.
+#![tactic(auto)]
+
 mod machine;
 mod methods;
 

@@ -8,6 +8,8 @@
 //     # ..               nothing, as a blank line
 //
 // `specs/Session.antt` says for every line what is read, and `specs/Shown.antt` how a line is printed, so that it is read again.
+#![tactic(auto)]
+
 ghost use Rattle.std.specs.Prelude.{◌≡◌, true, Some};
 ghost use Rattle.commands.specs.Lines.{with_ok};
 ghost use Rattle.sessions.specs.Session.{noted, number_and_rest, at_desk, words_note, session_says};

@@ -1,4 +1,6 @@
 // Random days at a few desks, each compared with the second paper and with plain desks: `tester --days 1000`.
+#![tactic(auto)]
+
 mod runs;
 mod trouble;
 

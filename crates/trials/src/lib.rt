@@ -2,6 +2,8 @@
 // doubled, late or damaged. Everything here is a test.
 //
 // What the tests share answers whether all went as it should, or how far it went; the tests check that.
+#![tactic(auto)]
+
 #[cfg(test)]
 mod desk;
 #[cfg(test)]

@@ -2,6 +2,8 @@
 //
 // A paper keeps the deeds that the desk has heard of, as the desk's version vector says, and answers with the plain paper's words, tallies, names and
 // refusals. A plain desk is told the same commands, and is sent plain letters: all that the writer knew.
+#![tactic(auto)]
+
 mod commands;
 mod compare;
 mod faults;

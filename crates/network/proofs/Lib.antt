@@ -50,7 +50,6 @@ pub mod OwnSteady
 pub mod Own
 pub mod OwnRefusals
 pub mod Settled
-pub mod Replay
 pub mod RoomStands
 pub mod RoomCommands
 pub mod RoomLetters

@@ -4,5 +4,4 @@ pub mod Page
 pub mod Declined
 pub mod Room
 pub mod Rooms
-pub mod Replay
 pub mod Statements

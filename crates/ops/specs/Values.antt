@@ -30,4 +30,4 @@ held m = m.cells.now
 
 pub record Holds (m m₁ : Memory) (cells : List ℕ) : Type 0 where
   pub after : m₁.cells.now ≡ cells
-  pub same : m₁.cells.name ≡ m.cells.name
+  pub same : m₁.cells.ghost_name ≡ m.cells.ghost_name

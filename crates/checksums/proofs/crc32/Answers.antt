@@ -9,7 +9,7 @@ loop-byte-init c = refl
 
 pub loop-byte-preserved : goal.loop-byte-preserved
 loop-byte-preserved c =
-    bytes_more c.args.bytes.now c.loop-byte.byte-index c.loop-byte.state c.next_state.result (omega arith) c.next_state.ensures _ c.loop-byte.invariant
+    bytes_more c.args.bytes.now c.loop-byte.byte-index c.loop-byte.state c.next-state.result (omega arith) c.next-state.ensures _ c.loop-byte.invariant
 
 pub returns : goal.returns
 unfolding all_ones

@@ -1,16 +1,16 @@
 use Rattle.std.proofs.Common.{◌/◌, ◌≤◌, length, sym, refl, ◌∙◌, arith}
 use Rattle.desks.proofs.RowNames.{sofar_at, sofar_newer, sofar_older, odd_names, no_names, some_names}
 use Rattle.desks.proofs.newest.Goals as goal
-use Rattle.desks.proofs.newest.Goals.{then-is-before, else-is-before}
+use Rattle.desks.proofs.newest.Goals.{then-is_before, else-is_before}
 
 pub loop-i-init : goal.loop-i-init
 loop-i-init c = (refl, omega arith, omega arith)
 
 pub loop-i-preserved : goal.loop-i-preserved
 loop-i-preserved c =
-    elim c.if-is-before.branch [
-      | then-is-before w ↦ sofar_at _ _ _ _ w.best-is (sofar_newer _ _ _ c.loop-i-test.true c.loop-i.invariant (sym w.if-is-before.true ∙ c.is-before.ensures))
-      | else-is-before w ↦ sofar_at _ _ _ _ w.best-is (sofar_older _ _ _ c.loop-i-test.true c.loop-i.invariant (sym w.if-is-before.false ∙ c.is-before.ensures))
+    elim c.if-is_before.branch [
+      | then-is_before w ↦ sofar_at _ _ _ _ w.best-is (sofar_newer _ _ _ c.loop-i-test.true c.loop-i.invariant (sym w.if-is_before.true ∙ c.is_before.ensures))
+      | else-is_before w ↦ sofar_at _ _ _ _ w.best-is (sofar_older _ _ _ c.loop-i-test.true c.loop-i.invariant (sym w.if-is_before.false ∙ c.is_before.ensures))
     ]
 
 pub returns-then-names-ne0 : goal.returns-then-names-ne0

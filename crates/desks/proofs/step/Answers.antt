@@ -27,8 +27,8 @@ invariant-of-memory-in-8 c = (let e = fits_memory _ _ _ _ _ c.if-not-fits.ensure
 pub invariant-of-memory-in-9 : goal.invariant-of-memory-in-9
 invariant-of-memory-in-9 c = (let e = fits_memory _ _ _ _ _ c.if-not-fits.ensures in omega arith, tt)
 
-pub invariant-of-memory-in-default : goal.invariant-of-memory-in-default
-invariant-of-memory-in-default c = (let e = fits_memory _ _ _ _ _ c.if-not-fits.ensures in omega arith, tt)
+pub invariant-of-memory-in_default : goal.invariant-of-memory-in_default
+invariant-of-memory-in_default c = (let e = fits_memory _ _ _ _ _ c.if-not-fits.ensures in omega arith, tt)
 
 pub returns-in-0 : goal.returns-in-0
 returns-in-0 c = step_quiet _ _ _ _ _ _ _ _ c.if-not-fits.ensures _ (told_open _ _ _ _ c.in-0.is) _ _ (search rules) c.open.ensures
@@ -40,7 +40,7 @@ pub returns-in-4 : goal.returns-in-4
 returns-in-4 c = step_quiet _ _ _ _ _ _ _ _ c.if-not-fits.ensures _ (told_add _ _ _ _ c.in-4.is) _ _ (search rules) c.add.ensures
 
 pub returns-in-6 : goal.returns-in-6
-returns-in-6 c = step_shown _ _ _ _ _ _ _ _ c.if-not-fits.ensures _ (told_show _ _ _ _ c.in-6.is) _ _ (search rules) _ c.show-word.ensures
+returns-in-6 c = step_shown _ _ _ _ _ _ _ _ c.if-not-fits.ensures _ (told_show _ _ _ _ c.in-6.is) _ _ (search rules) _ c.show_word.ensures
 
 pub returns-in-7 : goal.returns-in-7
 returns-in-7 c = step_sent _ _ _ _ _ _ _ _ c.if-not-fits.ensures _ (told_send _ _ _ _ c.in-7.is) _ _ (search rules) _ c.send.ensures
@@ -49,18 +49,18 @@ pub returns-in-8 : goal.returns-in-8
 returns-in-8 c = step_quiet _ _ _ _ _ _ _ _ c.if-not-fits.ensures _ (told_hear _ _ _ _ c.in-8.is) _ _ (search rules) c.hear.ensures
 
 pub returns-in-9 : goal.returns-in-9
-returns-in-9 c = step_shown _ _ _ _ _ _ _ _ c.if-not-fits.ensures _ (told_next _ _ _ _ c.in-9.is) _ _ (search rules) _ c.go-on.ensures
+returns-in-9 c = step_shown _ _ _ _ _ _ _ _ c.if-not-fits.ensures _ (told_next _ _ _ _ c.in-9.is) _ _ (search rules) _ c.go_on.ensures
 
-pub show-word-requires : goal.show-word-requires
-show-word-requires c = fits_row _ _ _ _ _ c.if-not-fits.ensures
+pub show_word-requires : goal.show_word-requires
+show_word-requires c = fits_row _ _ _ _ _ c.if-not-fits.ensures
 
 pub send-requires : goal.send-requires
 send-requires c = fits_out _ _ _ _ _ c.if-not-fits.ensures
 
-pub go-on-requires : goal.go-on-requires
-go-on-requires c = fits_row _ _ _ _ _ c.if-not-fits.ensures
+pub go_on-requires : goal.go_on-requires
+go_on-requires c = fits_row _ _ _ _ _ c.if-not-fits.ensures
 
-pub returns-in-default : goal.returns-in-default
-returns-in-default c =
+pub returns-in_default : goal.returns-in_default
+returns-in_default c =
     step_unknown _ _ _ _ _ _ _ _ c.if-not-fits.ensures (fits_kind _ _ _ _ _ c.if-not-fits.ensures) (omega arith) (omega arith) (omega arith) (omega arith) (omega arith) (omega arith) (omega arith)
-    c.refusal-of-unknown.ensures _ (search rules)
+    c.refusal_of_unknown.ensures _ (search rules)

@@ -7,5 +7,5 @@ returns-then-at-key c = count-here _ _ _ _ c.in-Add.is c.if-at-key.true
 pub returns-else-at-key : goal.returns-else-at-key
 returns-else-at-key c = count-there _ _ _ _ c.in-Add.is c.if-at-key.false
 
-pub returns-in-default : goal.returns-in-default
-returns-in-default c = count_other _ _ c.in-default.not-Add
+pub returns-in_default : goal.returns-in_default
+returns-in_default c = count_other _ _ c.in_default.not-Add

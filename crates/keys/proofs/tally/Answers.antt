@@ -9,7 +9,7 @@ pub loop-op-init : goal.loop-op-init
 loop-op-init c = (count_none (held c.args.memory.now) c.args.key, omega arith, omega arith)
 
 pub overflow-add-sum : goal.overflow-add-sum
-overflow-add-sum c = omega (arith, kept_few (held c.args.memory.now), c.added-to.type-inv, c.from-sum.ensures)
+overflow-add-sum c = omega (arith, kept_few (held c.args.memory.now), c.added_to.type_inv, c.from-sum.ensures)
 
 pub overflow-add-k : goal.overflow-add-k
 overflow-add-k c = omega (arith, kept_few (held c.args.memory.now))
@@ -21,10 +21,10 @@ pub loop-op-preserved : goal.loop-op-preserved
 loop-op-preserved c =
     let h = c.in-Some.ensures in
     let l = h.0 in
-    let e : c.from-sum.result ≡ count_of c.args.key (kind_of c.in-Some.op.kind) = c.from-sum.ensures ∙ c.added-to.ensures in
-    let f = c.added-to.type-inv in
+    let e : c.from-sum.result ≡ count_of c.args.key (kind_of c.in-Some.op.kind) = c.from-sum.ensures ∙ c.added_to.ensures in
+    let f = c.added_to.type_inv in
     let g = c.from-sum.ensures in
     (ap (λ n. c.loop-op.sum + n) e ∙ count_on _ _ _ h.1 c.args.key c.loop-op.sum c.loop-op.invariant.0, omega arith, omega arith)
 
 pub returns : goal.returns
-returns c = c.loop-op.invariant.0 ∙ ap (λ ops. count_at ops c.args.key) (firsts-all _ _ c.loop-op.invariant.2 c.in-default.ensures)
+returns c = c.loop-op.invariant.0 ∙ ap (λ ops. count_at ops c.args.key) (firsts-all _ _ c.loop-op.invariant.2 c.in_default.ensures)

@@ -20,10 +20,10 @@ pub loop-op-preserved : goal.loop-op-preserved
 loop-op-preserved c =
     let h = c.in-Some.ensures in
     let l = h.0 in
-    (c.newer-word-best.ensures ∙ newest_on _ _ _ h.1 c.args.key _ c.loop-op.invariant.0, omega arith)
+    (c.newer_word-best.ensures ∙ newest_on _ _ _ h.1 c.args.key _ c.loop-op.invariant.0, omega arith)
 
 pub returns-in-Some-best : goal.returns-in-Some-best
-returns-in-Some-best c = word_some _ _ _ c.in-Some-best.found (c.loop-op.invariant.0 ∙ ap (newest_under c.args.key) (firsts-all _ _ c.loop-op.invariant.1 c.in-default.ensures)) c.in-Some-best.is
+returns-in-Some-best c = word_some _ _ _ c.in-Some-best.found (c.loop-op.invariant.0 ∙ ap (newest_under c.args.key) (firsts-all _ _ c.loop-op.invariant.1 c.in_default.ensures)) c.in-Some-best.is
 
 pub returns-in-None : goal.returns-in-None
-returns-in-None c = word_none _ _ _ (c.loop-op.invariant.0 ∙ ap (newest_under c.args.key) (firsts-all _ _ c.loop-op.invariant.1 c.in-default.ensures)) c.in-None.is
+returns-in-None c = word_none _ _ _ (c.loop-op.invariant.0 ∙ ap (newest_under c.args.key) (firsts-all _ _ c.loop-op.invariant.1 c.in_default.ensures)) c.in-None.is

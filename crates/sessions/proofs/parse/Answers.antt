@@ -6,7 +6,7 @@ use Rattle.sessions.proofs.parse.Goals as goal
 
 pub returns : goal.returns
 returns c =
-    c.line-from.ensures
-    ∙ line_notes _ _ _ _ _ c.up_to_spaces.ensures c.past-spaces-text.ensures (eqb-false _ 0 (sym c.if-is-empty.ensures))
-    (λ e. false≢true ((starts_char 35 _ false c.if-starts-with.ensures.cases (lit< tt) (lit< tt)).1 e))
-    c.split-word.ensures.0 c.split-word.ensures.1
+    c.line_from.ensures
+    ∙ line_notes _ _ _ _ _ c.up_to_spaces.ensures c.past_spaces-text.ensures (eqb-false _ 0 (sym c.if-is_empty.ensures))
+    (λ e. false≢true ((starts_char 35 _ false c.if-starts_with.ensures.cases (lit< tt) (lit< tt)).1 e))
+    c.split_word.ensures.0 c.split_word.ensures.1

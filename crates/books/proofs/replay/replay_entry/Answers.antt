@@ -22,11 +22,11 @@ returns-in-4 c = tells _ _ _ _ 4 c.in-4.is refl (taken _ _ _ _ c.does-in-4.ensur
 
 pub returns-in-7 : goal.returns-in-7
 unfolding event_of is_kept
-returns-in-7 c = tells _ _ _ _ 7 c.in-7.is refl c.send-again.ensures
+returns-in-7 c = tells _ _ _ _ 7 c.in-7.is refl c.send_again.ensures
 
 pub returns-in-8 : goal.returns-in-8
 unfolding event_of is_kept
 returns-in-8 c = tells _ _ _ _ 8 c.in-8.is refl (heard _ _ _ _ _ c.requires c.hear.ensures)
 
-pub returns-in-default : goal.returns-in-default
-returns-in-default c = tells_no _ _ (not_kept _ (λ q. omega arith) (λ q. omega arith) (λ q. omega arith) (λ q. omega arith) (λ q. omega arith) (λ q. omega arith))
+pub returns-in_default : goal.returns-in_default
+returns-in_default c = tells_no _ _ (not_kept _ (λ q. omega arith) (λ q. omega arith) (λ q. omega arith) (λ q. omega arith) (λ q. omega arith) (λ q. omega arith))

@@ -5,8 +5,8 @@ use Rattle.desks.proofs.Telling.{quiet_no, showing}
 use Rattle.desks.proofs.Acting.{goes_done, goes_tally}
 use Rattle.desks.proofs.parts.go_on.Goals as goal
 
-pub returns-in-default : goal.returns-in-default
-returns-in-default c = showing _ _ _ _ _ (quiet_no _ next 2 (next_closed _ c.in-default.ensures))
+pub returns-in_default : goal.returns-in_default
+returns-in_default c = showing _ _ _ _ _ (quiet_no _ next 2 (next_closed _ c.in_default.ensures))
 
 pub returns-then-memory-ne1 : goal.returns-then-memory-ne1
 returns-then-memory-ne1 c = goes_done _ _ c.in-Some.ensures.0 c.if-memory-ne1.true

@@ -8,11 +8,11 @@ returns-then-made-ge-MOST-DEEDS c = no_room_made _ _ _ _ _ c.made.ensures refl r
 pub returns-then-length-ge-CAPACITY : goal.returns-then-length-ge-CAPACITY
 returns-then-length-ge-CAPACITY c = no_room-kept _ _ _ _ _ c.made.ensures c.length.ensures.value refl c.if-length-ge-CAPACITY.true
 
-pub returns-in-err-n : goal.returns-in-err-n
-returns-in-err-n c = simp c.from-residual.ensures (no_room-number _ _ _ _ _ c.made.ensures c.length.ensures.value c.highest.ensures c.in-err-n.ensures)
+pub returns-in_err-n : goal.returns-in_err-n
+returns-in_err-n c = simp c.from_residual.ensures (no_room-number _ _ _ _ _ c.made.ensures c.length.ensures.value c.highest.ensures c.in_err-n.ensures)
 
 pub returns : goal.returns
 returns c = (
-  room-there _ _ _ _ _ c.made.ensures c.length.ensures.value c.highest.ensures c.if-made-ge-MOST-DEEDS.false c.if-length-ge-CAPACITY.false c.in-ok-n.ensures.0,
-  new_id _ _ _ _ c.highest.ensures c.in-ok-n.ensures.1,
+  room-there _ _ _ _ _ c.made.ensures c.length.ensures.value c.highest.ensures c.if-made-ge-MOST-DEEDS.false c.if-length-ge-CAPACITY.false c.in_ok-n.ensures.0,
+  new_id _ _ _ _ c.highest.ensures c.in_ok-n.ensures.1,
 )

@@ -1,12 +1,12 @@
 use Rattle.journals.proofs.Readings.{lengths_apart, in_bounds, out_of_bounds}
 use Rattle.journals.proofs.entries.body_length.Goals as goal
 
-pub returns-then-u16-at-n : goal.returns-then-u16-at-n
-returns-then-u16-at-n c = lengths_apart _ _ _ c.u16-at-n.ensures c.u16-at.ensures c.if-u16-at-n.true
+pub returns-then-u16_at-n : goal.returns-then-u16_at-n
+returns-then-u16_at-n c = lengths_apart _ _ _ c.u16_at-n.ensures c.u16_at.ensures c.if-u16_at-n.true
 
 pub returns-then-n-le-LONGEST-BODY : goal.returns-then-n-le-LONGEST-BODY
 returns-then-n-le-LONGEST-BODY c =
-    in_bounds _ _ _ c.u16-at-n.ensures c.u16-at.ensures c.if-u16-at-n.false c.if-n-ge-LETTER-AT.true c.if-n-le-LONGEST-BODY.true
+    in_bounds _ _ _ c.u16_at-n.ensures c.u16_at.ensures c.if-u16_at-n.false c.if-n-ge-LETTER-AT.true c.if-n-le-LONGEST-BODY.true
 
 pub returns-else-n-ge-LETTER-AT : goal.returns-else-n-ge-LETTER-AT
-returns-else-n-ge-LETTER-AT c = out_of_bounds _ _ _ c.u16-at-n.ensures c.u16-at.ensures c.if-u16-at-n.false c.else-n-ge-LETTER-AT.either
+returns-else-n-ge-LETTER-AT c = out_of_bounds _ _ _ c.u16_at-n.ensures c.u16_at.ensures c.if-u16_at-n.false c.else-n-ge-LETTER-AT.either

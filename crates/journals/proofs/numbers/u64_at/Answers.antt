@@ -2,4 +2,4 @@ use Rattle.journals.proofs.LittleEndian.{eight_at}
 use Rattle.journals.proofs.numbers.u64_at.Goals as goal
 
 pub returns : goal.returns
-returns c = eight_at _ _ _ _ c.requires c.copy-from-slice.ensures.after c.from-le-bytes.ensures
+returns c = eight_at _ _ _ _ c.requires c.copy_from_slice.ensures.after c.from_le_bytes.ensures

@@ -3,4 +3,4 @@ use Rattle.messages.proofs.Wholeness.{sealed_is}
 use Rattle.messages.proofs.letter.is_sealed.Goals as goal
 
 pub returns : goal.returns
-returns c = sealed_is _ _ _ _ refl c.number-at.ensures c.crc32.ensures
+returns c = sealed_is _ _ _ _ refl c.number_at.ensures c.crc32.ensures

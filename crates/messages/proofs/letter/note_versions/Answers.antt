@@ -11,7 +11,7 @@ loop-number-init c = record { after = refl; same = refl }
 pub loop-number-preserved : goal.loop-number-preserved
 loop-number-preserved c =
     record {
-      after = noted_on _ _ _ _ _ _ _ c.loop-number.invariant.after c.number-at.ensures c.note.ensures.after;
+      after = noted_on _ _ _ _ _ _ _ c.loop-number.invariant.after c.number_at.ensures c.note.ensures.after;
       same = c.note.ensures.same ∙ c.loop-number.invariant.same;
     }
 

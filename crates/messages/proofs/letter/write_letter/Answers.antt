@@ -8,4 +8,4 @@ returns-then-out-lt-LONGEST c = wrote_nothing _ c.args.out.now c.if-out-lt-LONGE
 pub returns : goal.returns
 returns c =
     wrote_letter _ _ _ _ _ _ _ _ _ _ c.if-out-lt-LONGEST.false
-    c.write-versions.ensures c.write-news-count.ensures.count c.write-news-count.ensures.after c.write-head.ensures refl c.seal.ensures
+    c.write_versions.ensures c.write_news-count.ensures.count c.write_news-count.ensures.after c.write_head.ensures refl c.seal.ensures

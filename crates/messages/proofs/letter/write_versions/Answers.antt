@@ -9,7 +9,7 @@ loop-number-init c = vector_none c.args.out.now 4 _ (omega arith)
 
 pub loop-number-preserved : goal.loop-number-preserved
 loop-number-preserved c =
-    c.put-number.ensures
+    c.put_number.ensures
     ∙ vector_more c.args.out.now _ (versions (held c.args.memory.now)) c.loop-number.number 4 _ (omega arith) c.loop-number.invariant c.version.ensures
 
 pub returns : goal.returns

@@ -8,10 +8,10 @@ unfolding are_records
 loop-k-init c = refl
 
 pub loop-k-preserved : goal.loop-k-preserved
-loop-k-preserved c = records_on _ _ c.loop-k.invariant c.if-not-is-record.ensures
+loop-k-preserved c = records_on _ _ c.loop-k.invariant c.if-not-is_record.ensures
 
-pub returns-then-not-is-record : goal.returns-then-not-is-record
-returns-then-not-is-record c = records_not _ _ _ c.if-not-is-record.ensures c.loop-k-test.true
+pub returns-then-not-is_record : goal.returns-then-not-is_record
+returns-then-not-is_record c = records_not _ _ _ c.if-not-is_record.ensures c.loop-k-test.true
 
 pub returns : goal.returns
 returns c =

@@ -14,8 +14,8 @@ overflow-add-most-2 c = let b = c.known.ensures.bound in let d = c.known-2.ensur
 pub loop-pairs-init : goal.loop-pairs-init
 loop-pairs-init c = (refl, sets_out _ _ _)
 
-pub returns-then-is-level-with : goal.returns-then-is-level-with
-returns-then-is-level-with c =
+pub returns-then-is_level_with : goal.returns-then-is_level_with
+returns-then-is_level_with c =
     let desks = c.args.desks.now in
     let now = c.loop-pairs.desks in
     let n = c.loop-pairs.invariant.0 in
@@ -27,7 +27,7 @@ returns-then-is-level-with c =
     record {
       met =
           ends_level _ _ _ _ _ _ _ c.loop-pairs.invariant.1 (omega arith)
-          (level-there now c.args.one c.args.other _ _ _ (omega arith) (omega arith) c.index-in-loop-pairs.ensures c.index-in-loop-pairs-2.ensures c.if-is-level-with.ensures);
+          (level-there now c.args.one c.args.other _ _ _ (omega arith) (omega arith) c.index-in-loop-pairs.ensures c.index-in-loop-pairs-2.ensures c.if-is_level_with.ensures);
       count = n;
     }
 
@@ -45,7 +45,7 @@ loop-pairs-preserved c =
     let there : c.args.other < vec_len now = omega arith in (
       c.pair-mail.ensures.count ∙ n,
       goes_on _ _ _ _ _ _ _ _ _ _ (counted now _ here) (counted now _ there) c.requires.1.1 c.loop-pairs.invariant.1 (omega arith)
-          (level-there now c.args.one c.args.other _ _ _ here there c.index-in-loop-pairs.ensures c.index-in-loop-pairs-2.ensures c.if-is-level-with.ensures) c.pair-mail.ensures.paired,
+          (level-there now c.args.one c.args.other _ _ _ here there c.index-in-loop-pairs.ensures c.index-in-loop-pairs-2.ensures c.if-is_level_with.ensures) c.pair-mail.ensures.paired,
     )
 
 pub returns : goal.returns

@@ -2,14 +2,14 @@ use Rattle.std.proofs.Common.{◌≡◌, ◌-◌, ◌<◌, length, take, sym, re
 use Rattle.simulator.proofs.Passing.{passed_ok, passed_no}
 use Rattle.simulator.proofs.meetings.pass.Goals as goal
 
-pub returns-in-default : goal.returns-in-default
-returns-in-default c =
+pub returns-in_default : goal.returns-in_default
+returns-in_default c =
     let len = c.args.desks.now.ok.0 in
     let hi = subst (λ n. c.args.from < n) len c.requires.0 in
     let hj = subst (λ n. c.args.to < n) len c.requires.1.0 in
     record {
       passed =
-          passed_no _ _ _ hi hj c.requires.1.1.0 _ _ _ _ c.index-mut.ensures.value c.index-mut-in-default.ensures.value _ _ _ _ c.requires.1.1.1 c.in-default.ensures c.hear-none.ensures;
+          passed_no _ _ _ hi hj c.requires.1.1.0 _ _ _ _ c.index-mut.ensures.value c.index-mut-in_default.ensures.value _ _ _ _ c.requires.1.1.1 c.in_default.ensures c.hear-none.ensures;
       count = refl;
     }
 
@@ -22,6 +22,6 @@ returns c =
     record {
       passed =
           passed_ok _ _ _ hi hj c.requires.1.1.0 _ _ _ _ c.index-mut.ensures.value c.index-mut-2.ensures.value _ _ _ _ _ _ c.requires.1.1.1 c.letter.auto.out (ap (λ n. take n c.letter.new.out) size)
-          c.is-ok-fair.ensures.value c.in-Ok.ensures c.hear.ensures;
+          c.is_ok-fair.ensures.value c.in-Ok.ensures c.hear.ensures;
       count = refl;
     }

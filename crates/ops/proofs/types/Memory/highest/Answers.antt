@@ -8,4 +8,4 @@ unfolding highest_up_to
 loop-d-init c = refl
 
 pub loop-d-preserved : goal.loop-d-preserved
-loop-d-preserved c = highest_more _ _ _ _ _ c.loop-d.invariant c.low-half.ensures c.max-highest.ensures
+loop-d-preserved c = highest_more _ _ _ _ _ c.loop-d.invariant c.low_half.ensures c.max-highest.ensures

@@ -14,6 +14,6 @@ pub returns-in-2 : goal.returns-in-2
 returns-in-2 c =
     (omega arith, op_is _ _ _ _ _ _ _ _ _ c.field.ensures c.field-2.ensures c.field-3.ensures c.field-x.ensures c.field-y.ensures (refl) (kind_2 _ _ _ _ c.in-2.is))
 
-pub returns-in-default : goal.returns-in-default
-returns-in-default c =
+pub returns-in_default : goal.returns-in_default
+returns-in_default c =
     (omega arith, op_is _ _ _ _ _ _ _ _ _ c.field.ensures c.field-2.ensures c.field-3.ensures c.field-x.ensures c.field-y.ensures (refl) (kind_3 _ _ _ _ (omega arith)))

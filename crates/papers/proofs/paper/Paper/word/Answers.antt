@@ -7,7 +7,7 @@ unfolding found
 loop-k-init c = newest_none c.args.key c.deeds-deeds.result.now
 
 pub loop-k-preserved : goal.loop-k-preserved
-loop-k-preserved c = newest_more c.args.key c.deeds-deeds.result.now _ _ _ _ c.loop-k-test.true c.loop-k.auto.k c.loop-k.invariant c.or-newer-newest.ensures
+loop-k-preserved c = newest_more c.args.key c.deeds-deeds.result.now _ _ _ _ c.loop-k-test.true c.loop-k.auto.k c.loop-k.invariant c.or_newer-newest.ensures
 
 pub returns-in-Some : goal.returns-in-Some
 returns-in-Some c = word_found c.args.key c.deeds-deeds.result.now _ _ _ _ c.loop-k.invariant c.loop-k-test.false c.deeds-deeds.ensures c.in-Some.is

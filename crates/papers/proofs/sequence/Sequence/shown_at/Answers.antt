@@ -10,10 +10,10 @@ loop-sign-preserved-then-sign c = place_struck _ _ _ c.loop-sign-test.true c.if-
 pub returns-then-before-eq0 : goal.returns-then-before-eq0
 returns-then-before-eq0 c =
     place_here _ _ _ c.loop-sign-test.true c.if-sign.false _ _ c.if-before-eq0.true c.loop-sign.invariant
-    ∙ ap (λ row. slice_get (names row) c.args.place) c.as-slice-sign-items.ensures.value
+    ∙ ap (λ row. slice_get (names row) c.args.place) c.as_slice-sign-items.ensures.value
 
 pub loop-sign-preserved : goal.loop-sign-preserved
 loop-sign-preserved c = place_more _ _ _ c.loop-sign-test.true c.if-sign.false _ _ c.if-before-eq0.false c.loop-sign.invariant
 
 pub returns : goal.returns
-returns c = place_none _ _ c.loop-sign-test.false _ _ c.loop-sign.invariant ∙ ap (λ row. slice_get (names row) c.args.place) c.as-slice-sign-items.ensures.value
+returns c = place_none _ _ c.loop-sign-test.false _ _ c.loop-sign.invariant ∙ ap (λ row. slice_get (names row) c.args.place) c.as_slice-sign-items.ensures.value

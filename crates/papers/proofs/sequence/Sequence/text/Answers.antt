@@ -8,8 +8,8 @@ loop-sign-preserved-then-sign c = text_struck _ _ _ c.loop-sign-test.true c.if-s
 
 pub loop-sign-preserved : goal.loop-sign-preserved
 loop-sign-preserved c =
-    ap (λ xs. xs ++ signs (drop (c.loop-sign.sign-index + 1) c.as-slice-sign-items.result.now)) c.in-ok-push.ensures.items
+    ap (λ xs. xs ++ signs (drop (c.loop-sign.sign-index + 1) c.as_slice-sign-items.result.now)) c.in_ok-push.ensures.items
     ∙ text-here _ _ _ c.loop-sign-test.true c.if-sign.false _ _ c.loop-sign.invariant
 
 pub returns : goal.returns
-returns c = text_none _ _ c.loop-sign-test.false _ _ c.loop-sign.invariant ∙ ap signs c.as-slice-sign-items.ensures.value
+returns c = text_none _ _ c.loop-sign-test.false _ _ c.loop-sign.invariant ∙ ap signs c.as_slice-sign-items.ensures.value

@@ -2,8 +2,8 @@ use Rattle.std.proofs.lemmas.Result.{IfOk-from_err}
 use Rattle.replicas.proofs.Runs.{is_start}
 use Rattle.replicas.proofs.machine.Replica.blank.Goals as goal
 
-pub returns-in-err-vec-2 : goal.returns-in-err-vec-2
-returns-in-err-vec-2 c = IfOk-from_err _ _ c.from-residual-in-err-vec-2.ensures.0
+pub returns-in_err-vec-2 : goal.returns-in_err-vec-2
+returns-in_err-vec-2 c = IfOk-from_err _ _ c.from_residual-in_err-vec-2.ensures.0
 
 pub returns : goal.returns
-returns c = is_start _ (c.in-ok-vec.ensures.items-if-clones-equal (λ y h. h))
+returns c = is_start _ (c.in_ok-vec.ensures.items-if-clones-equal (λ y h. h))

@@ -18,8 +18,8 @@ returns-in-Sends c =
     let s = c.in-Sends.ensures in let self = c.args.self.now in
     writes-long _ _ _ _ _ _ c.if-out-lt-MOST-BYTES.false (letter_made _ _ _ _ _ _ _ (sym self.memory.ok.0 ∙ self.sized.0) s.memory _ _ refl s.act)
 
-pub returns-in-default : goal.returns-in-default
+pub returns-in_default : goal.returns-in_default
 unfolding event_of
-returns-in-default c =
+returns-in_default c =
     let s = c.step.ensures in let self = c.args.self.now in
-    absurd (letter_else _ _ _ _ _ _ _ (sym self.memory.ok.0 ∙ self.sized.0) s.memory _ s.act c.in-default.not-Sends c.in-default.not-No)
+    absurd (letter_else _ _ _ _ _ _ _ (sym self.memory.ok.0 ∙ self.sized.0) s.memory _ s.act c.in_default.not-Sends c.in_default.not-No)

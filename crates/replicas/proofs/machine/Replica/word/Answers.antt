@@ -15,6 +15,6 @@ pub returns-else-n-eq0 : goal.returns-else-n-eq0
 unfolding event_of
 returns-else-n-eq0 c = let s = c.in-Shows.ensures in word_some _ _ _ _ _ _ _ s.memory _ _ _ refl c.if-n-eq0.false c.index.ensures s.act
 
-pub returns-in-default : goal.returns-in-default
+pub returns-in_default : goal.returns-in_default
 unfolding event_of
-returns-in-default c = let s = c.step.ensures in absurd (word_else _ _ _ _ _ _ _ s.memory _ s.act c.in-default.not-Shows c.in-default.not-No)
+returns-in_default c = let s = c.step.ensures in absurd (word_else _ _ _ _ _ _ _ s.memory _ s.act c.in_default.not-Shows c.in_default.not-No)

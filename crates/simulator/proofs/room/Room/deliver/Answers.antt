@@ -19,8 +19,8 @@ invariant-of-self-2 c =
     let l = c.index-letter.result.now in
     let near = l.near in
     let there : c.args.letter < length (vec_items self.letters) = let t = c.if-letter-len.false in let e = c.len.ensures in let f = self.letters.ok.0 in omega arith in
-    let short : length c.as-slice.result.now ≤ 4096 = let s = l.short in let e = c.as-slice.ensures.len in omega arith in
-    let p = came_after _ _ _ l _ _ _ _ there c.index-letter.ensures (within self.desks _ self.count near) c.index-mut.ensures.value c.as-slice.ensures.value short c.hear.ensures in
+    let short : length c.as_slice.result.now ≤ 4096 = let s = l.short in let e = c.as_slice.ensures.len in omega arith in
+    let p = came_after _ _ _ l _ _ _ _ there c.index-letter.ensures (within self.desks _ self.count near) c.index-mut.ensures.value c.as_slice.ensures.value short c.hear.ensures in
     (self.count, (reached_next _ _ _ p self.reached, tt))
 
 pub returns : goal.returns
@@ -29,5 +29,5 @@ returns c =
     let l = c.index-letter.result.now in
     let near = l.near in
     let there : c.args.letter < length (vec_items self.letters) = let t = c.if-letter-len.false in let e = c.len.ensures in let f = self.letters.ok.0 in omega arith in
-    let short : length c.as-slice.result.now ≤ 4096 = let s = l.short in let e = c.as-slice.ensures.len in omega arith in
-    came_one _ _ _ l _ _ _ _ _ there c.index-letter.ensures (within self.desks _ self.count near) c.index-mut.ensures.value c.as-slice.ensures.value short c.plain.ensures c.hear.ensures
+    let short : length c.as_slice.result.now ≤ 4096 = let s = l.short in let e = c.as_slice.ensures.len in omega arith in
+    came_one _ _ _ l _ _ _ _ _ there c.index-letter.ensures (within self.desks _ self.count near) c.index-mut.ensures.value c.as_slice.ensures.value short c.plain.ensures c.hear.ensures

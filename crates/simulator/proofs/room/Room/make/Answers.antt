@@ -4,61 +4,61 @@ use Rattle.simulator.specs.Rooms.{note_of, memories}
 use Rattle.simulator.proofs.Playing.{cannot_make, kept_none, kept_one, cut_row, none_played, reached_next, reached_same, both_near, within}
 use Rattle.simulator.proofs.room.Room.make.Goals as goal
 
-pub returns-then-not-are-two : goal.returns-then-not-are-two
-returns-then-not-are-two c = cannot_make _ _ _ c.if-not-are-two.ensures
+pub returns-then-not-are_two : goal.returns-then-not-are_two
+returns-then-not-are_two c = cannot_make _ _ _ c.if-not-are_two.ensures
 
 pub invariant-of-self : goal.invariant-of-self
 invariant-of-self c =
     let self = c.args.self.now in
     (self.count, (reached_same _ _ (ap (λ l. room (memories self.desks) (map note_of l)) c.reserve.ensures.items) self.reached, tt))
 
-pub returns-in-err-reserve : goal.returns-in-err-reserve
-returns-in-err-reserve c =
+pub returns-in_err-reserve : goal.returns-in_err-reserve
+returns-in_err-reserve c =
     let self = c.args.self.now in
-    none_played _ _ _ _ c.from-residual-in-err-reserve.ensures.0 (ap (λ l. room (memories self.desks) (map note_of l)) c.reserve.ensures.items)
+    none_played _ _ _ _ c.from_residual-in_err-reserve.ensures.0 (ap (λ l. room (memories self.desks) (map note_of l)) c.reserve.ensures.items)
 
 pub invariant-of-self-in-Err· : goal.invariant-of-self-in-Err·
 invariant-of-self-in-Err· c =
     let self = c.args.self.now in
-    let two = c.if-not-are-two.ensures in
+    let two = c.if-not-are_two.ensures in
     let there = within self.desks _ self.count (both_near c.args.from c.args.to two).0 in
-    let long : 4096 ≤ length c.as-mut-slice.result.now = let e = c.as-mut-slice.ensures.len in let f = c.in-ok-bytes.ensures.len in omega arith in
+    let long : 4096 ≤ length c.as_mut_slice.result.now = let e = c.as_mut_slice.ensures.len in let f = c.in_ok-bytes.ensures.len in omega arith in
     let p = kept_none _ _ _ _ _ _ _ _ _ _ two there c.index-mut.ensures.value long c.in-Err.ensures c.reserve.ensures.items in
     (self.count, (reached_next _ _ _ p.after self.reached, tt))
 
 pub returns-in-Err : goal.returns-in-Err
 returns-in-Err c =
     let self = c.args.self.now in
-    let two = c.if-not-are-two.ensures in
+    let two = c.if-not-are_two.ensures in
     let there = within self.desks _ self.count (both_near c.args.from c.args.to two).0 in
-    let long : 4096 ≤ length c.as-mut-slice.result.now = let e = c.as-mut-slice.ensures.len in let f = c.in-ok-bytes.ensures.len in omega arith in
+    let long : 4096 ≤ length c.as_mut_slice.result.now = let e = c.as_mut_slice.ensures.len in let f = c.in_ok-bytes.ensures.len in omega arith in
     kept_none _ _ _ _ _ _ _ _ _ _ two there c.index-mut.ensures.value long c.in-Err.ensures c.reserve.ensures.items
 
-pub invariant-of-push-reserved : goal.invariant-of-push-reserved
-invariant-of-push-reserved c =
+pub invariant-of-push_reserved : goal.invariant-of-push_reserved
+invariant-of-push_reserved c =
     let n = c.truncate.ensures.len in
-    let f = c.in-ok-bytes.ensures.len in
+    let f = c.in_ok-bytes.ensures.len in
     let short : vec_len c.truncate.new.self ≤ 4096 = omega arith in
-    ((both_near c.args.from c.args.to c.if-not-are-two.ensures).1, (short, tt))
+    ((both_near c.args.from c.args.to c.if-not-are_two.ensures).1, (short, tt))
 
 pub invariant-of-self-2 : goal.invariant-of-self-2
 invariant-of-self-2 c =
     let self = c.args.self.now in
-    let two = c.if-not-are-two.ensures in
+    let two = c.if-not-are_two.ensures in
     let there = within self.desks _ self.count (both_near c.args.from c.args.to two).0 in
-    let long : 4096 ≤ length c.as-mut-slice.result.now = let e = c.as-mut-slice.ensures.len in let f = c.in-ok-bytes.ensures.len in omega arith in
-    let cut = cut_row _ _ _ _ _ _ (sym c.in-ok-bytes.bytes.ok.0) c.as-mut-slice.ensures.value c.letter.auto.out c.truncate.ensures.items in
+    let long : 4096 ≤ length c.as_mut_slice.result.now = let e = c.as_mut_slice.ensures.len in let f = c.in_ok-bytes.ensures.len in omega arith in
+    let cut = cut_row _ _ _ _ _ _ (sym c.in_ok-bytes.bytes.ok.0) c.as_mut_slice.ensures.value c.letter.auto.out c.truncate.ensures.items in
     let p =
-    kept_one _ _ _ _ _ _ _ _ _ _ _ _ two there c.index-mut.ensures.value long c.in-Ok.ensures c.reserve.ensures.items c.push-reserved.ensures.items
+    kept_one _ _ _ _ _ _ _ _ _ _ _ _ two there c.index-mut.ensures.value long c.in-Ok.ensures c.reserve.ensures.items c.push_reserved.ensures.items
     (ap (note c.args.from c.args.to) cut) in
     (self.count, (reached_next _ _ _ p.after self.reached, tt))
 
 pub returns : goal.returns
 returns c =
     let self = c.args.self.now in
-    let two = c.if-not-are-two.ensures in
+    let two = c.if-not-are_two.ensures in
     let there = within self.desks _ self.count (both_near c.args.from c.args.to two).0 in
-    let long : 4096 ≤ length c.as-mut-slice.result.now = let e = c.as-mut-slice.ensures.len in let f = c.in-ok-bytes.ensures.len in omega arith in
-    let cut = cut_row _ _ _ _ _ _ (sym c.in-ok-bytes.bytes.ok.0) c.as-mut-slice.ensures.value c.letter.auto.out c.truncate.ensures.items in
-    kept_one _ _ _ _ _ _ _ _ _ _ _ _ two there c.index-mut.ensures.value long c.in-Ok.ensures c.reserve.ensures.items c.push-reserved.ensures.items
+    let long : 4096 ≤ length c.as_mut_slice.result.now = let e = c.as_mut_slice.ensures.len in let f = c.in_ok-bytes.ensures.len in omega arith in
+    let cut = cut_row _ _ _ _ _ _ (sym c.in_ok-bytes.bytes.ok.0) c.as_mut_slice.ensures.value c.letter.auto.out c.truncate.ensures.items in
+    kept_one _ _ _ _ _ _ _ _ _ _ _ _ two there c.index-mut.ensures.value long c.in-Ok.ensures c.reserve.ensures.items c.push_reserved.ensures.items
     (ap (note c.args.from c.args.to) cut)

@@ -2,25 +2,25 @@ use Rattle.std.proofs.Common.{sym, ◌∙◌, arith}
 use Rattle.simulator.proofs.Playing.{cannot_meet, met_well, met_ill, met_after, reached_next, both_near}
 use Rattle.simulator.proofs.room.Room.meet.Goals as goal
 
-pub returns-then-not-are-two : goal.returns-then-not-are-two
-returns-then-not-are-two c = cannot_meet _ _ _ c.if-not-are-two.ensures
+pub returns-then-not-are_two : goal.returns-then-not-are_two
+returns-then-not-are_two c = cannot_meet _ _ _ c.if-not-are_two.ensures
 
 pub invariant-of-self : goal.invariant-of-self
 invariant-of-self c =
     let self = c.args.self.now in
-    (c.meet-meeting.ensures.count ∙ self.count, (reached_next _ _ _ (met_after _ _ _ _ _ _ _ _ c.if-not-are-two.ensures c.meet-meeting.ensures.met) self.reached, tt))
+    (c.meet-meeting.ensures.count ∙ self.count, (reached_next _ _ _ (met_after _ _ _ _ _ _ _ _ c.if-not-are_two.ensures c.meet-meeting.ensures.met) self.reached, tt))
 
 pub returns-then-meeting : goal.returns-then-meeting
-returns-then-meeting c = met_well _ _ _ _ _ _ _ _ c.if-not-are-two.ensures c.meet-meeting.ensures.met c.if-meeting.true
+returns-then-meeting c = met_well _ _ _ _ _ _ _ _ c.if-not-are_two.ensures c.meet-meeting.ensures.met c.if-meeting.true
 
 pub returns-else-meeting : goal.returns-else-meeting
-returns-else-meeting c = met_ill _ _ _ _ _ _ _ _ c.if-not-are-two.ensures c.meet-meeting.ensures.met c.if-meeting.false
+returns-else-meeting c = met_ill _ _ _ _ _ _ _ _ c.if-not-are_two.ensures c.meet-meeting.ensures.met c.if-meeting.false
 
 pub meet-meeting-requires : goal.meet-meeting-requires
 meet-meeting-requires c =
     let self = c.args.self.now in
     let n = self.count in
-    let t = both_near _ _ c.if-not-are-two.ensures in
+    let t = both_near _ _ c.if-not-are_two.ensures in
     let i = t.0 in
     let j = t.1 in
     (omega arith, (omega arith, t.2))

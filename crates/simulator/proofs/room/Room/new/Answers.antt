@@ -11,7 +11,7 @@ loop-desk-init c = (c.new-desks.ensures.len, ap (map memory_of) c.new-desks.ensu
 
 pub loop-desk-preserved : goal.loop-desk-preserved
 loop-desk-preserved c =
-    let p = c.in-ok-push.ensures in
+    let p = c.in_ok-push.ensures in
     let n = p.len in
     let m = c.loop-desk.invariant.0 in
     (omega arith, one_opened _ _ _ _ p.items c.in-Ok.ensures.1 c.loop-desk.invariant.1)

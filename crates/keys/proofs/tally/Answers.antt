@@ -8,11 +8,11 @@ use Rattle.keys.proofs.tally.Goals as goal
 pub loop-op-init : goal.loop-op-init
 loop-op-init c = (count_none (held c.args.memory.now) c.args.key, omega arith, omega arith)
 
-pub overflow-add-sum : goal.overflow-add-sum
-overflow-add-sum c = omega (arith, kept_few (held c.args.memory.now), c.added_to.type_inv, c.from-sum.ensures)
+pub overflow_add-sum : goal.overflow_add-sum
+overflow_add-sum c = omega (arith, kept_few (held c.args.memory.now), c.added_to.type_inv, c.from-sum.ensures)
 
-pub overflow-add-k : goal.overflow-add-k
-overflow-add-k c = omega (arith, kept_few (held c.args.memory.now))
+pub overflow_add-k : goal.overflow_add-k
+overflow_add-k c = omega (arith, kept_few (held c.args.memory.now))
 
 pub loop-op-smaller : goal.loop-op-smaller
 loop-op-smaller c = omega (arith, kept_few (held c.args.memory.now), c.in-Some.ensures.0)

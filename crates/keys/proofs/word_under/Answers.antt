@@ -10,8 +10,8 @@ pub loop-op-init : goal.loop-op-init
 unfolding found_op
 loop-op-init c = (sym (newest_none (held c.args.memory.now) c.args.key), omega arith)
 
-pub overflow-add-k : goal.overflow-add-k
-overflow-add-k c = omega (arith, kept_few (held c.args.memory.now))
+pub overflow_add-k : goal.overflow_add-k
+overflow_add-k c = omega (arith, kept_few (held c.args.memory.now))
 
 pub loop-op-smaller : goal.loop-op-smaller
 loop-op-smaller c = omega (arith, kept_few (held c.args.memory.now), c.in-Some.ensures.0)

@@ -12,8 +12,8 @@ replay_entry-requires c = let s = entry_sized _ _ _ _ c.loop-entry.invariant _ _
 pub returns-in-Err : goal.returns-in-Err
 returns-in-Err c = told-no _ _ _ _ c.loop-entry.invariant _ _ c.in-Entry.ensures _ _ c.in-Err.ensures
 
-pub overflow-add-whole : goal.overflow-add-whole
-overflow-add-whole c = let s = next_within _ _ _ _ c.loop-entry.invariant _ _ c.in-Entry.ensures in omega arith
+pub overflow_add-whole : goal.overflow_add-whole
+overflow_add-whole c = let s = next_within _ _ _ _ c.loop-entry.invariant _ _ c.in-Entry.ensures in omega arith
 
 pub loop-entry-smaller : goal.loop-entry-smaller
 loop-entry-smaller c = falls _ _ _ _ c.loop-entry.invariant _ _ c.in-Entry.ensures

@@ -5,11 +5,11 @@ use Rattle.simulator.proofs.Passing.{counted, known-there, level-there}
 use Rattle.simulator.proofs.UnderWay.{sets_out, ends_level, ends_all, goes_on}
 use Rattle.simulator.proofs.meetings.meet.Goals as goal
 
-pub overflow-add-most : goal.overflow-add-most
-overflow-add-most c = let b = c.known.ensures.bound in omega arith
+pub overflow_add-most : goal.overflow_add-most
+overflow_add-most c = let b = c.known.ensures.bound in omega arith
 
-pub overflow-add-most-2 : goal.overflow-add-most-2
-overflow-add-most-2 c = let b = c.known.ensures.bound in let d = c.known-2.ensures.bound in omega arith
+pub overflow_add-most-2 : goal.overflow_add-most-2
+overflow_add-most-2 c = let b = c.known.ensures.bound in let d = c.known-2.ensures.bound in omega arith
 
 pub loop-pairs-init : goal.loop-pairs-init
 loop-pairs-init c = (refl, sets_out _ _ _)

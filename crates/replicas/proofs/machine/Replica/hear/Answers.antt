@@ -10,7 +10,7 @@ quietly-requires c = (omega arith, (omega arith, refl))
 
 pub returns : goal.returns
 unfolding event_of
-returns c = read_short _ _ _ _ _ c.if-letter-gt-MOST-BYTES.false c.quietly.ensures
+returns c = read_short _ _ _ _ _ c.if-letter-gt-MOST_BYTES.false c.quietly.ensures
 
-pub returns-then-letter-gt-MOST-BYTES : goal.returns-then-letter-gt-MOST-BYTES
-returns-then-letter-gt-MOST-BYTES c = read-long _ _ _ c.if-letter-gt-MOST-BYTES.true
+pub returns-then-letter-gt-MOST_BYTES : goal.returns-then-letter-gt-MOST_BYTES
+returns-then-letter-gt-MOST_BYTES c = read-long _ _ _ c.if-letter-gt-MOST_BYTES.true

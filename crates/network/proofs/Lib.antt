@@ -49,7 +49,7 @@ pub mod OwnOpening
 pub mod OwnSteady
 pub mod Own
 pub mod OwnRefusals
-pub mod Settled
+pub mod Passed
 pub mod RoomStands
 pub mod RoomCommands
 pub mod RoomLetters

@@ -17,7 +17,7 @@ use Rattle.network.proofs.OwnRep.{nothing_left}
 use Rattle.network.proofs.OwnRuns.{own_refused, own_sends}
 use Rattle.network.proofs.Runs.{run_done}
 use Rattle.network.proofs.OwnWriting.{letter-fits}
-use Rattle.network.proofs.Settled.{few_refusals, opened_passed, pick_passed}
+use Rattle.network.proofs.Passed.{few_refusals, opened_passed, pick_passed}
 use Rattle.network.proofs.OwnShowing.{m₁, m₂, shows_word, shows_tally, shows_both}
 use Rattle.replicas.specs.Steps.{shows_nothing, is_quiet, WordShown, NumberShown}
 use Rattle.replicas.specs.Replica.{command_of, Did, Showed, Sent, WritesIf, Writes, Reads, Read}

@@ -6,29 +6,29 @@ use Rattle.desks.proofs.step.Goals as goal
 pub returns-then-not-fits : goal.returns-then-not-fits
 returns-then-not-fits c = misfit _ _ _ _ _ _ _ c.if-not-fits.ensures
 
-pub invariant-of-memory : goal.invariant-of-memory
-invariant-of-memory c = (let e = fits_memory _ _ _ _ _ c.if-not-fits.ensures in omega arith, tt)
+pub invariant_of-memory : goal.invariant_of-memory
+invariant_of-memory c = record { long = let e = fits_memory _ _ _ _ _ c.if-not-fits.ensures in omega arith }
 
-pub invariant-of-memory-in-3 : goal.invariant-of-memory-in-3
-invariant-of-memory-in-3 c = (let e = fits_memory _ _ _ _ _ c.if-not-fits.ensures in omega arith, tt)
+pub invariant_of-memory-in-3 : goal.invariant_of-memory-in-3
+invariant_of-memory-in-3 c = record { long = let e = fits_memory _ _ _ _ _ c.if-not-fits.ensures in omega arith }
 
-pub invariant-of-memory-in-4 : goal.invariant-of-memory-in-4
-invariant-of-memory-in-4 c = (let e = fits_memory _ _ _ _ _ c.if-not-fits.ensures in omega arith, tt)
+pub invariant_of-memory-in-4 : goal.invariant_of-memory-in-4
+invariant_of-memory-in-4 c = record { long = let e = fits_memory _ _ _ _ _ c.if-not-fits.ensures in omega arith }
 
-pub invariant-of-memory-in-6 : goal.invariant-of-memory-in-6
-invariant-of-memory-in-6 c = (let e = fits_memory _ _ _ _ _ c.if-not-fits.ensures in omega arith, tt)
+pub invariant_of-memory-in-6 : goal.invariant_of-memory-in-6
+invariant_of-memory-in-6 c = record { long = let e = fits_memory _ _ _ _ _ c.if-not-fits.ensures in omega arith }
 
-pub invariant-of-memory-in-7 : goal.invariant-of-memory-in-7
-invariant-of-memory-in-7 c = (let e = fits_memory _ _ _ _ _ c.if-not-fits.ensures in omega arith, tt)
+pub invariant_of-memory-in-7 : goal.invariant_of-memory-in-7
+invariant_of-memory-in-7 c = record { long = let e = fits_memory _ _ _ _ _ c.if-not-fits.ensures in omega arith }
 
-pub invariant-of-memory-in-8 : goal.invariant-of-memory-in-8
-invariant-of-memory-in-8 c = (let e = fits_memory _ _ _ _ _ c.if-not-fits.ensures in omega arith, tt)
+pub invariant_of-memory-in-8 : goal.invariant_of-memory-in-8
+invariant_of-memory-in-8 c = record { long = let e = fits_memory _ _ _ _ _ c.if-not-fits.ensures in omega arith }
 
-pub invariant-of-memory-in-9 : goal.invariant-of-memory-in-9
-invariant-of-memory-in-9 c = (let e = fits_memory _ _ _ _ _ c.if-not-fits.ensures in omega arith, tt)
+pub invariant_of-memory-in-9 : goal.invariant_of-memory-in-9
+invariant_of-memory-in-9 c = record { long = let e = fits_memory _ _ _ _ _ c.if-not-fits.ensures in omega arith }
 
-pub invariant-of-memory-in_default : goal.invariant-of-memory-in_default
-invariant-of-memory-in_default c = (let e = fits_memory _ _ _ _ _ c.if-not-fits.ensures in omega arith, tt)
+pub invariant_of-memory-in_default : goal.invariant_of-memory-in_default
+invariant_of-memory-in_default c = record { long = let e = fits_memory _ _ _ _ _ c.if-not-fits.ensures in omega arith }
 
 pub returns-in-0 : goal.returns-in-0
 returns-in-0 c = step_quiet _ _ _ _ _ _ _ _ c.if-not-fits.ensures _ (told_open _ _ _ _ c.in-0.is) _ _ (search rules) c.open.ensures

@@ -13,8 +13,8 @@ returns-then-letter-len c =
     let g = length-map (vec_items ls) note_of in
     cannot_come _ _ (omega arith)
 
-pub invariant-of-self-2 : goal.invariant-of-self-2
-invariant-of-self-2 c =
+pub invariant_of-self-2 : goal.invariant_of-self-2
+invariant_of-self-2 c =
     let self = c.args.self.now in
     let l = c.index-letter.result.now in
     let near = l.near in

@@ -7,8 +7,8 @@ use Rattle.simulator.proofs.room.Room.make.Goals as goal
 pub returns-then-not-are_two : goal.returns-then-not-are_two
 returns-then-not-are_two c = cannot_make _ _ _ c.if-not-are_two.ensures
 
-pub invariant-of-self : goal.invariant-of-self
-invariant-of-self c =
+pub invariant_of-self : goal.invariant_of-self
+invariant_of-self c =
     let self = c.args.self.now in
     (self.count, (reached_same _ _ (ap (λ l. room (memories self.desks) (map note_of l)) c.reserve.ensures.items) self.reached, tt))
 
@@ -17,8 +17,8 @@ returns-in_err-reserve c =
     let self = c.args.self.now in
     none_played _ _ _ _ c.from_residual-in_err-reserve.ensures.0 (ap (λ l. room (memories self.desks) (map note_of l)) c.reserve.ensures.items)
 
-pub invariant-of-self-in-Err· : goal.invariant-of-self-in-Err·
-invariant-of-self-in-Err· c =
+pub invariant_of-self-in-Err· : goal.invariant_of-self-in-Err·
+invariant_of-self-in-Err· c =
     let self = c.args.self.now in
     let two = c.if-not-are_two.ensures in
     let there = within self.desks _ self.count (both_near c.args.from c.args.to two).0 in
@@ -34,15 +34,15 @@ returns-in-Err c =
     let long : 4096 ≤ length c.as_mut_slice.result.now = let e = c.as_mut_slice.ensures.len in let f = c.in_ok-bytes.ensures.len in omega arith in
     kept_none _ _ _ _ _ _ _ _ _ _ two there c.index-mut.ensures.value long c.in-Err.ensures c.reserve.ensures.items
 
-pub invariant-of-push_reserved : goal.invariant-of-push_reserved
-invariant-of-push_reserved c =
+pub invariant_of-push_reserved : goal.invariant_of-push_reserved
+invariant_of-push_reserved c =
     let n = c.truncate.ensures.len in
     let f = c.in_ok-bytes.ensures.len in
     let short : vec_len c.truncate.new.self ≤ 4096 = omega arith in
     ((both_near c.args.from c.args.to c.if-not-are_two.ensures).1, (short, tt))
 
-pub invariant-of-self-2 : goal.invariant-of-self-2
-invariant-of-self-2 c =
+pub invariant_of-self-2 : goal.invariant_of-self-2
+invariant_of-self-2 c =
     let self = c.args.self.now in
     let two = c.if-not-are_two.ensures in
     let there = within self.desks _ self.count (both_near c.args.from c.args.to two).0 in

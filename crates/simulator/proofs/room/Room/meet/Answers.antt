@@ -5,8 +5,8 @@ use Rattle.simulator.proofs.room.Room.meet.Goals as goal
 pub returns-then-not-are_two : goal.returns-then-not-are_two
 returns-then-not-are_two c = cannot_meet _ _ _ c.if-not-are_two.ensures
 
-pub invariant-of-self : goal.invariant-of-self
-invariant-of-self c =
+pub invariant_of-self : goal.invariant_of-self
+invariant_of-self c =
     let self = c.args.self.now in
     (c.meet-meeting.ensures.count ∙ self.count, (reached_next _ _ _ (met_after _ _ _ _ _ _ _ _ c.if-not-are_two.ensures c.meet-meeting.ensures.met) self.reached, tt))
 

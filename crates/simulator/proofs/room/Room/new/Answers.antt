@@ -16,8 +16,8 @@ loop-desk-preserved c =
     let m = c.loop-desk.invariant.0 in
     (omega arith, one_opened _ _ _ _ p.items c.in-Ok.ensures.1 c.loop-desk.invariant.1)
 
-pub invariant-of-result : goal.invariant-of-result
-invariant-of-result c =
+pub invariant_of-result : goal.invariant_of-result
+invariant_of-result c =
     let l = c.loop-desk-test.false in
     let k = c.loop-desk.auto.desk-end in
     let m = c.loop-desk.invariant.0 in

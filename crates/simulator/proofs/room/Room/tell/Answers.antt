@@ -5,8 +5,8 @@ use Rattle.simulator.proofs.room.Room.tell.Goals as goal
 pub returns-then-desk-ge-DESKS : goal.returns-then-desk-ge-DESKS
 returns-then-desk-ge-DESKS c = cannot_at _ _ _ c.if-desk-ge-DESKS.true
 
-pub invariant-of-self : goal.invariant-of-self
-invariant-of-self c =
+pub invariant_of-self : goal.invariant_of-self
+invariant_of-self c =
     let self = c.args.self.now in
     let near = c.if-desk-ge-DESKS.false in
     let p = told_at _ _ _ _ _ _ _ near (within self.desks _ self.count near) c.index-mut.ensures.value c.told.ensures in

@@ -140,8 +140,8 @@ kept_one xs ls ls₁ ls₂ l i j n r r₁ out out₁ two there e long h el ep en
     (made_one xs (map note_of ls) i j r r₁ two there e n out out₁ (note_of l) long en h)
 
 -- what is left of a row that was lent whole, filled, and cut
-pub cut_row : (n m : ℕ) (own lent back cut : List ℕ) → length own ≡ n → lent ≡ own → length back ≡ length lent → cut ≡ take m (Back n back own) → cut ≡ take m back
-cut_row n m own lent back cut a b c e = e ∙ ap (take m) (is_back (record { long = a; whole = b; kept = c }))
+pub cut_row : (n m : ℕ) (first lent back cut : List ℕ) → length first ≡ n → lent ≡ first → length back ≡ length lent → cut ≡ take m (Back n back first) → cut ≡ take m back
+cut_row n m first lent back cut a b c e = e ∙ ap (take m) (is_back (record { long = a; whole = b; kept = c }))
 
 -- an answer with nothing shown, from how a run ended
 plain_ends : (r : Room) (it : Item) (y : Ran) (x : Result (Unit {0}) ℕ) (a : Answer) → Plain x a → Ended y x → (end_of a ≡ y.end) × (rows_of a ≡ []) × Counts r it a

@@ -9,7 +9,7 @@ returns-in_default c =
     let hj = subst (λ n. c.args.to < n) len c.requires.1.0 in
     record {
       passed =
-          passed_no _ _ _ hi hj c.requires.1.1.0 _ _ _ _ c.index-mut.ensures.value c.index-mut-in_default.ensures.value _ _ _ _ c.requires.1.1.1 c.in_default.ensures c.hear-none.ensures;
+          passed_no _ _ _ hi hj c.requires.1.1.0 _ _ _ _ c.index_mut.ensures.value c.index_mut-in_default.ensures.value _ _ _ _ c.requires.1.1.1 c.in_default.ensures c.hear-none.ensures;
       count = refl;
     }
 
@@ -21,7 +21,7 @@ returns c =
     let size : c.in-Ok.size - 0 ≡ c.in-Ok.size = omega arith in
     record {
       passed =
-          passed_ok _ _ _ hi hj c.requires.1.1.0 _ _ _ _ c.index-mut.ensures.value c.index-mut-2.ensures.value _ _ _ _ _ _ c.requires.1.1.1 c.letter.auto.out (ap (λ n. take n c.letter.new.out) size)
+          passed_ok _ _ _ hi hj c.requires.1.1.0 _ _ _ _ c.index_mut.ensures.value c.index_mut-2.ensures.value _ _ _ _ _ _ c.requires.1.1.1 c.letter.auto.out (ap (λ n. take n c.letter.new.out) size)
           c.is_ok-fair.ensures.value c.in-Ok.ensures c.hear.ensures;
       count = refl;
     }

@@ -20,8 +20,8 @@ invariant_of-self-2 c =
     let near = l.near in
     let there : c.args.letter < length (vec_items self.letters) = let t = c.if-letter-len.false in let e = c.len.ensures in let f = self.letters.ok.0 in omega arith in
     let short : length c.as_slice.result.now ≤ 4096 = let s = l.short in let e = c.as_slice.ensures.len in omega arith in
-    let p = came_after _ _ _ l _ _ _ _ there c.index-letter.ensures (within self.desks _ self.count near) c.index-mut.ensures.value c.as_slice.ensures.value short c.hear.ensures in
-    (self.count, (reached_next _ _ _ p self.reached, tt))
+    let p = came_after _ _ _ l _ _ _ _ there c.index-letter.ensures (within self.desks _ self.count near) c.index_mut.ensures.value c.as_slice.ensures.value short c.hear.ensures in
+    record { count = self.count; reached = reached_next _ _ _ p self.reached }
 
 pub returns : goal.returns
 returns c =
@@ -30,4 +30,4 @@ returns c =
     let near = l.near in
     let there : c.args.letter < length (vec_items self.letters) = let t = c.if-letter-len.false in let e = c.len.ensures in let f = self.letters.ok.0 in omega arith in
     let short : length c.as_slice.result.now ≤ 4096 = let s = l.short in let e = c.as_slice.ensures.len in omega arith in
-    came_one _ _ _ l _ _ _ _ _ there c.index-letter.ensures (within self.desks _ self.count near) c.index-mut.ensures.value c.as_slice.ensures.value short c.plain.ensures c.hear.ensures
+    came_one _ _ _ l _ _ _ _ _ there c.index-letter.ensures (within self.desks _ self.count near) c.index_mut.ensures.value c.as_slice.ensures.value short c.plain.ensures c.hear.ensures

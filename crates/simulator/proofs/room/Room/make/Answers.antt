@@ -10,21 +10,21 @@ returns-then-not-are_two c = cannot_make _ _ _ c.if-not-are_two.ensures
 pub invariant_of-self : goal.invariant_of-self
 invariant_of-self c =
     let self = c.args.self.now in
-    (self.count, (reached_same _ _ (ap (λ l. room (memories self.desks) (map note_of l)) c.reserve.ensures.items) self.reached, tt))
+    record { count = self.count; reached = reached_same _ _ (ap (λ l. room (memories self.desks) (map note_of l)) c.reserve.ensures.items) self.reached }
 
 pub returns-in_err-reserve : goal.returns-in_err-reserve
 returns-in_err-reserve c =
     let self = c.args.self.now in
     none_played _ _ _ _ c.from_residual-in_err-reserve.ensures.0 (ap (λ l. room (memories self.desks) (map note_of l)) c.reserve.ensures.items)
 
-pub invariant_of-self-in-Err· : goal.invariant_of-self-in-Err·
-invariant_of-self-in-Err· c =
+pub invariant_of-self-in-Err-1 : goal.invariant_of-self-in-Err-1
+invariant_of-self-in-Err-1 c =
     let self = c.args.self.now in
     let two = c.if-not-are_two.ensures in
     let there = within self.desks _ self.count (both_near c.args.from c.args.to two).0 in
     let long : 4096 ≤ length c.as_mut_slice.result.now = let e = c.as_mut_slice.ensures.len in let f = c.in_ok-bytes.ensures.len in omega arith in
-    let p = kept_none _ _ _ _ _ _ _ _ _ _ two there c.index-mut.ensures.value long c.in-Err.ensures c.reserve.ensures.items in
-    (self.count, (reached_next _ _ _ p.after self.reached, tt))
+    let p = kept_none _ _ _ _ _ _ _ _ _ _ two there c.index_mut.ensures.value long c.in-Err.ensures c.reserve.ensures.items in
+    record { count = self.count; reached = reached_next _ _ _ p.after self.reached }
 
 pub returns-in-Err : goal.returns-in-Err
 returns-in-Err c =
@@ -32,14 +32,14 @@ returns-in-Err c =
     let two = c.if-not-are_two.ensures in
     let there = within self.desks _ self.count (both_near c.args.from c.args.to two).0 in
     let long : 4096 ≤ length c.as_mut_slice.result.now = let e = c.as_mut_slice.ensures.len in let f = c.in_ok-bytes.ensures.len in omega arith in
-    kept_none _ _ _ _ _ _ _ _ _ _ two there c.index-mut.ensures.value long c.in-Err.ensures c.reserve.ensures.items
+    kept_none _ _ _ _ _ _ _ _ _ _ two there c.index_mut.ensures.value long c.in-Err.ensures c.reserve.ensures.items
 
 pub invariant_of-push_reserved : goal.invariant_of-push_reserved
 invariant_of-push_reserved c =
     let n = c.truncate.ensures.len in
     let f = c.in_ok-bytes.ensures.len in
     let short : vec_len c.truncate.new.self ≤ 4096 = omega arith in
-    ((both_near c.args.from c.args.to c.if-not-are_two.ensures).1, (short, tt))
+    record { near = (both_near c.args.from c.args.to c.if-not-are_two.ensures).1; short = short }
 
 pub invariant_of-self-2 : goal.invariant_of-self-2
 invariant_of-self-2 c =
@@ -49,9 +49,9 @@ invariant_of-self-2 c =
     let long : 4096 ≤ length c.as_mut_slice.result.now = let e = c.as_mut_slice.ensures.len in let f = c.in_ok-bytes.ensures.len in omega arith in
     let cut = cut_row _ _ _ _ _ _ (sym c.in_ok-bytes.bytes.ok.0) c.as_mut_slice.ensures.value c.letter.auto.out c.truncate.ensures.items in
     let p =
-    kept_one _ _ _ _ _ _ _ _ _ _ _ _ two there c.index-mut.ensures.value long c.in-Ok.ensures c.reserve.ensures.items c.push_reserved.ensures.items
+    kept_one _ _ _ _ _ _ _ _ _ _ _ _ two there c.index_mut.ensures.value long c.in-Ok.ensures c.reserve.ensures.items c.push_reserved.ensures.items
     (ap (note c.args.from c.args.to) cut) in
-    (self.count, (reached_next _ _ _ p.after self.reached, tt))
+    record { count = self.count; reached = reached_next _ _ _ p.after self.reached }
 
 pub returns : goal.returns
 returns c =
@@ -60,5 +60,5 @@ returns c =
     let there = within self.desks _ self.count (both_near c.args.from c.args.to two).0 in
     let long : 4096 ≤ length c.as_mut_slice.result.now = let e = c.as_mut_slice.ensures.len in let f = c.in_ok-bytes.ensures.len in omega arith in
     let cut = cut_row _ _ _ _ _ _ (sym c.in_ok-bytes.bytes.ok.0) c.as_mut_slice.ensures.value c.letter.auto.out c.truncate.ensures.items in
-    kept_one _ _ _ _ _ _ _ _ _ _ _ _ two there c.index-mut.ensures.value long c.in-Ok.ensures c.reserve.ensures.items c.push_reserved.ensures.items
+    kept_one _ _ _ _ _ _ _ _ _ _ _ _ two there c.index_mut.ensures.value long c.in-Ok.ensures c.reserve.ensures.items c.push_reserved.ensures.items
     (ap (note c.args.from c.args.to) cut)

@@ -8,7 +8,7 @@ returns-then-not-are_two c = cannot_meet _ _ _ c.if-not-are_two.ensures
 pub invariant_of-self : goal.invariant_of-self
 invariant_of-self c =
     let self = c.args.self.now in
-    (c.meet-meeting.ensures.count ∙ self.count, (reached_next _ _ _ (met_after _ _ _ _ _ _ _ _ c.if-not-are_two.ensures c.meet-meeting.ensures.met) self.reached, tt))
+    record { count = c.meet-meeting.ensures.count ∙ self.count; reached = reached_next _ _ _ (met_after _ _ _ _ _ _ _ _ c.if-not-are_two.ensures c.meet-meeting.ensures.met) self.reached }
 
 pub returns-then-meeting : goal.returns-then-meeting
 returns-then-meeting c = met_well _ _ _ _ _ _ _ _ c.if-not-are_two.ensures c.meet-meeting.ensures.met c.if-meeting.true

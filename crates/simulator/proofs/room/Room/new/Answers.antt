@@ -22,7 +22,7 @@ invariant_of-result c =
     let k = c.loop-desk.auto.desk-end in
     let m = c.loop-desk.invariant.0 in
     let e : c.loop-desk.desk ≡ 32 = omega arith in
-    (omega arith, (reached_first _ (is_first _ _ (c.loop-desk.invariant.1 ∙ ap (λ n. each (λ i. (opened 3 own i).memory) (up_to n)) e) c.new-letters.ensures.items), tt))
+    record { count = omega arith; reached = reached_first _ (is_first _ _ (c.loop-desk.invariant.1 ∙ ap (λ n. each (λ i. (opened 3 own i).memory) (up_to n)) e) c.new-letters.ensures.items) }
 
 pub returns : goal.returns
 returns c =

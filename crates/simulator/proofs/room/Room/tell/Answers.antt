@@ -9,11 +9,11 @@ pub invariant_of-self : goal.invariant_of-self
 invariant_of-self c =
     let self = c.args.self.now in
     let near = c.if-desk-ge-DESKS.false in
-    let p = told_at _ _ _ _ _ _ _ near (within self.desks _ self.count near) c.index-mut.ensures.value c.told.ensures in
-    (self.count, (reached_next _ _ _ p.after self.reached, tt))
+    let p = told_at _ _ _ _ _ _ _ near (within self.desks _ self.count near) c.index_mut.ensures.value c.told.ensures in
+    record { count = self.count; reached = reached_next _ _ _ p.after self.reached }
 
 pub returns : goal.returns
 returns c =
     let self = c.args.self.now in
     let near = c.if-desk-ge-DESKS.false in
-    told_at _ _ _ _ _ _ _ near (within self.desks _ self.count near) c.index-mut.ensures.value c.told.ensures
+    told_at _ _ _ _ _ _ _ near (within self.desks _ self.count near) c.index_mut.ensures.value c.told.ensures

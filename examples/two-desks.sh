@@ -1,18 +1,18 @@
 #!/usr/bin/env bash
-# Two desks, each with a book of its own, write under the same key without asking each other, carry a letter each way as a file, and then read the same.
+# Two desks write under the same key without asking each other, carry a letter each way as a file, and then read the same.
 set -eu
 cd "$(dirname "$0")/.."
-echo 'proving and building the keyboard, which takes some minutes the first time ..' >&2
-rt check keyboard > /dev/null || { echo "the keyboard does not build: run 'rt check keyboard' to see why" >&2; exit 1; }
-keyboard=$PWD/target/bin/keyboard
+echo 'proving and building the keyboard, which takes a minute or some the first time ..' >&2
+(cd crates/keyboard && rt run -- 0 < /dev/null > /dev/null 2>&1) || { echo "the keyboard does not build: run 'rt run' in crates/keyboard to see why" >&2; exit 1; }
+keyboard=$PWD/crates/keyboard/out/keyboard
 folder=$(mktemp -d)
 trap 'rm -rf "$folder"' EXIT
 cd "$folder"
 
 # Desk 0 is typed to through descriptor 4 and read through 5, desk 2 through 6 and 7.
 mkfifo to-0 of-0 to-2 of-2
-"$keyboard" 0 book-0 < to-0 > of-0 &
-"$keyboard" 2 book-2 < to-2 > of-2 &
+"$keyboard" 0 < to-0 > of-0 &
+"$keyboard" 2 < to-2 > of-2 &
 exec 4> to-0 5< of-0 6> to-2 7< of-2
 
 # Types a line at a desk.

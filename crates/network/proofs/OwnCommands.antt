@@ -6,7 +6,7 @@ use Rattle.ops.specs.Layout.{made_cell, low}
 use Rattle.ops.specs.Log.{kept, appended, highest_up_to}
 use Rattle.ops.proofs.Frames.{append_other}
 use Rattle.messages.specs.Records.{SmallKind}
-use Rattle.desks.specs.Run.{said, shows, done, refused, Ran, ran, runs_on}
+use Rattle.desks.specs.Run.{said, done, Ran, ran, runs_on}
 use Rattle.desks.specs.Machine.{is_open, me, has_room, says, idle, deed, does_said, does, refusal}
 use Rattle.desks.specs.Entry.{own}
 use Rattle.desks.proofs.Refusals.{write_key_large, write_word_large, write_small, add_key_large, add_amount_large, add_small, key_large_shown, unknown_insert, unknown_strike, unknown-text}

@@ -1,7 +1,7 @@
 -- What passed the machine's checks; and no refusal's number is above 7.
 use Rattle.std.proofs.Common.{◌≡◌, ℕ, ◌<◌, ◌≤◌, Bool, true, false, ◌&&◌, ltb, List, get_or, refl, arith}
 use Rattle.std.proofs.lemmas.Bool.{ltb-true}
-use Rattle.ops.specs.Doc.{pick, under, Command, insert, strike, write_under, add_to, show_text, show_key}
+use Rattle.ops.specs.Doc.{pick, Command, insert, strike, write_under, add_to, show_text, show_key}
 use Rattle.messages.specs.Letter.{is_letter}
 use Rattle.desks.specs.Run.{Event, opens, said, letter_to, hears, next}
 use Rattle.desks.specs.Machine.{is_open, me, is_peer, is_small, has_room, refusal_said, refusal}

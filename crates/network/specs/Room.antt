@@ -1,10 +1,10 @@
 -- A room: 32 desks, each with its machine, and every letter that was ever made between them, as a function of what happened. Assumes nothing: these are
 -- definitions.
-use Rattle.std.specs.Prelude.{ℕ, zero, suc, ◌+◌, Bool, true, not, ◌&&◌, List, [], ◌∷◌, ◌++◌, length, ◌==◌, nat_lt, slice_index_or, slice_set}
+use Rattle.std.specs.Prelude.{ℕ, zero, suc, ◌+◌, Bool, true, not, ◌&&◌, List, [], ◌++◌, length, ◌==◌, nat_lt, slice_index_or, slice_set}
 use Rattle.ops.specs.Doc.{pick, each, Op}
 use Rattle.ops.specs.Layout.{version_cell, low}
 use Rattle.ops.specs.Log.{kept, ops_of}
-use Rattle.desks.specs.Run.{said, letter_to, hears, Ran, runs_on, Two, exchange, first_letter, Item, at_desk, makes, comes, meet}
+use Rattle.desks.specs.Run.{said, letter_to, hears, Ran, runs_on, Two, exchange, Item, at_desk, makes, comes, meet}
 use Rattle.desks.specs.Promise.{desks, opened}
 use Rattle.desks.specs.Entry.{own}
 

@@ -1,6 +1,6 @@
 -- What is promised of a room after anything that can happen in it: what each desk shows is the paper's for what it has heard of.
 use Rattle.std.specs.Prelude.{◌≡◌, ℕ, suc, ◌+◌, ◌<◌, ◌≤◌, true, false, List, [], ◌∷◌, ◌++◌, length, slice_index_or}
-use Rattle.ops.specs.Doc.{pick, or, every, Op, all_in, hangs, Command, show_text, show_key, turn, small_command, core}
+use Rattle.ops.specs.Doc.{pick, or, every, Op, all_in, hangs, show_text, show_key, turn, core}
 use Rattle.desks.specs.Run.{Item, at_desk, makes, comes, meet, union_is}
 use Rattle.desks.specs.Promise.{good_item}
 use Rattle.network.specs.Room.{Room, Moved, moved, memory_at, note_at, heard, first_room, pairs, most_pairs, can, moves}

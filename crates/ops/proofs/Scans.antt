@@ -1,6 +1,5 @@
 -- A log read from its beginning, one operation further: what the paper's functions on lists make of one more at the end.
 use Rattle.std.proofs.Common.{◌≡◌, ℕ, zero, suc, ◌+◌, ◌<◌, ◌≤◌, Bool, true, false, List, [], ◌∷◌, ◌++◌, length, refl, ap, ◌∙◌, add-one, arith, length-append}
-use Rattle.ops.specs.Doc as doc
 use Rattle.ops.specs.Doc.{pick, those, added_up}
 use Rattle.ops.specs.Log.{op_at, firsts, kept, ops_of}
 

@@ -1,10 +1,10 @@
 -- Which act a machine did, from what it told.
-use Rattle.std.proofs.Common.{◌≡◌, ℕ, List, [], ◌∷◌, ◌++◌, length, get_or, take, drop, sym, refl, ap, ◌∙◌, arith}
+use Rattle.std.proofs.Common.{◌≡◌, ℕ, List, [], ◌∷◌, ◌++◌, length, get_or, take, drop, refl, ap, ◌∙◌, arith}
 use Rattle.std.proofs.lemmas.List.{take_at}
 use Rattle.desks.specs.Run.{Act, shows, sends, done, refused}
 use Rattle.desks.specs.Entry.{ActTold}
 use Rattle.desks.specs.declared.Told.{Told}
-use Rattle.desks.specs.declared.Told.TheVariants.{Shows, Sends, Done, No}
+use Rattle.desks.specs.declared.Told.TheVariants.{Shows, Sends, No}
 
 module _ (row row₁ out out₁ : List ℕ) where
   pub told-no : (a : Act) (k : ℕ) → ActTold a (No k) row row₁ out out₁ → a ≡ refused k

@@ -1,12 +1,12 @@
 -- One letter between two of many desks, and a letter and its answer: what they do to all memories.
-use Rattle.std.proofs.Common.{◌≡◌, ℕ, ◌+◌, ◌<◌, ◌≤◌, Bool, true, false, ◌&&◌, leb, List, [], ◌∷◌, map, length, get_or, take, set, is_ok, Ok, Err, vec_items, vec_len, Result, Vec, sym, refl, ap, ◌∙◌, subst, arith, length-set, length-take}
+use Rattle.std.proofs.Common.{◌≡◌, ℕ, ◌+◌, ◌<◌, ◌≤◌, Bool, false, ◌&&◌, List, [], map, length, get_or, take, set, is_ok, Ok, Err, vec_items, vec_len, Result, Vec, sym, ap, ◌∙◌, subst, arith, length-set, length-take}
 use Rattle.std.proofs.lemmas.List.{get_or-set_same, get_or-set_other, set-set, set_comm, map-set, get_or-map, length-map}
 use Rattle.std.proofs.lemmas.Bool.{le-leb}
 use Rattle.std.specs.declared.alloc.Global.{Global}
 use Rattle.ops.specs.Log.{kept}
 use Rattle.desks.specs.Run.{letter_to, hears, Ran, runs_on, made_well, read_well, first_letter, exchange}
 use Rattle.desks.specs.Entry.{own}
-use Rattle.network.specs.Room.{level, pair}
+use Rattle.network.specs.Room.{level}
 use Rattle.replicas.specs.declared.machine.Replica.{Replica}
 use Rattle.replicas.specs.Replica.{memory_of, Did, Sent, WritesIf, Writes, Reads, Read}
 use Rattle.simulator.specs.Rooms.{memories}

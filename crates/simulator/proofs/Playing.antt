@@ -20,7 +20,7 @@ use Rattle.replicas.specs.Replica.{memory_of, run, Ended, Did, Sent, Writes, Rea
 use Rattle.simulator.specs.declared.letter.Letter.{Letter}
 use Rattle.simulator.specs.declared.room.Item as play
 use Rattle.simulator.specs.declared.room.Answer.{Answer}
-use Rattle.simulator.specs.declared.room.Answer.TheVariants.{Done, Key, Met, Refused}
+use Rattle.simulator.specs.declared.room.Answer.TheVariants.{Done, Met, Refused}
 use Rattle.simulator.specs.Rooms.{note_of}
 use Rattle.simulator.specs.Meetings as meetings
 use Rattle.simulator.specs.Play.{item_of, end_of, rows_of, Plain, Answers, pairs_in, bytes_in, Counts, Plays, Played, Rightly}

@@ -1,5 +1,5 @@
 -- Whether a letter was made well, or read well, from how the run ended.
-use Rattle.std.proofs.Common.{◌≡◌, ℕ, ◌≤◌, true, false, not, ◌&&◌, eqb, List, [], ◌∷◌, is_ok, Ok, Err, Result, sym, refl, ap, ◌∙◌, arith}
+use Rattle.std.proofs.Common.{◌≡◌, ℕ, ◌≤◌, true, false, not, ◌&&◌, eqb, List, [], ◌∷◌, is_ok, Ok, Err, Result, sym, ap, arith}
 use Rattle.std.proofs.lemmas.Bool.{ne_eqb}
 use Rattle.ops.specs.Doc.{none_of}
 use Rattle.desks.specs.Run.{Ran, made_well, read_well}

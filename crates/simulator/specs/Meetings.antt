@@ -1,5 +1,5 @@
 -- What the letters of a meeting do to the memories of all desks.
-use Rattle.std.specs.Prelude.{◌≡◌, ℕ, zero, suc, ◌+◌, ◌≤◌, Bool, true, ◌&&◌, List, [], length, slice_index_or, slice_set}
+use Rattle.std.specs.Prelude.{◌≡◌, ℕ, zero, suc, ◌+◌, ◌≤◌, Bool, ◌&&◌, List, [], length, slice_index_or, slice_set}
 use Rattle.desks.specs.Run.{letter_to, hears, Ran, runs_on, made_well, read_well, first_letter, Two}
 use Rattle.desks.specs.Entry.{own}
 use Rattle.network.specs.Room.{pair, pairs, most_pairs, meeting}

@@ -3,7 +3,6 @@ use crate::desk::{ADD, Desk, WRITE, meet, pass};
 use crate::draw::Draw;
 use crate::model;
 use crate::model::Deed;
-use std::process::Abort;
 use std::test::Fail;
 
 const ROUNDS: usize = 200;
@@ -112,13 +111,22 @@ fn settle(a: &mut Desk, b: &mut Desk, c: &mut Desk) -> bool {
         && meet(c, a).is_some()
 }
 
-fn three_agree(rt: &impl Abort, network: &mut Network, a: &mut Desk, b: &mut Desk, c: &mut Desk) {
-    assert!(rt; runs(network, a, b, c), "a deed or a letter is refused");
-    assert!(rt; settle(a, b, c), "they don't come to agree");
-    assert!(rt;
-        network.is_shown_by(a) && network.is_shown_by(b) && network.is_shown_by(c),
-        "the model says something else"
-    );
+fn three_agree(
+    network: &mut Network,
+    a: &mut Desk,
+    b: &mut Desk,
+    c: &mut Desk,
+) -> Result<(), Fail> {
+    if !runs(network, a, b, c) {
+        return Err(Fail::new("a deed or a letter is refused"));
+    }
+    if !settle(a, b, c) {
+        return Err(Fail::new("they don't come to agree"));
+    }
+    if !(network.is_shown_by(a) && network.is_shown_by(b) && network.is_shown_by(c)) {
+        return Err(Fail::new("the model says something else"));
+    }
+    Ok(())
 }
 
 #[test]
@@ -132,8 +140,7 @@ fn letters_lost_doubled_and_late(rt: HostRuntime) -> Result<(), Fail> {
         deeds: Vec::new(heap),
         late: Vec::new(heap),
     };
-    three_agree(&rt, &mut network, &mut a, &mut b, &mut c);
-    Ok(())
+    three_agree(&mut network, &mut a, &mut b, &mut c)
 }
 
 fn write_and_add(desk: &mut Desk, word: u64, amount: u64) -> bool {

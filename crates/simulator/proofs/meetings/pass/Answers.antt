@@ -1,4 +1,4 @@
-use Rattle.std.proofs.Common.{◌≡◌, ◌-◌, ◌<◌, length, take, sym, refl, ap, subst, arith}
+use Rattle.std.proofs.Common.{◌≡◌, ◌-◌, ◌<◌, take, refl, ap, subst, arith}
 use Rattle.simulator.proofs.Passing.{passed_ok, passed_no}
 use Rattle.simulator.proofs.meetings.pass.Goals as goal
 

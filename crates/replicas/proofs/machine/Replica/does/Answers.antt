@@ -1,7 +1,6 @@
 use Rattle.std.proofs.Common.{refl, arith}
 use Rattle.desks.specs.Entry.{event_of}
 use Rattle.replicas.specs.Steps.{shows_nothing, is_quiet}
-use Rattle.replicas.specs.Replica.{command_of}
 use Rattle.replicas.proofs.Runs.{of_deed}
 use Rattle.replicas.proofs.machine.Replica.does.Goals as goal
 

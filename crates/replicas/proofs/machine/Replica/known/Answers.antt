@@ -1,4 +1,4 @@
-use Rattle.std.proofs.Common.{◌≡◌, ◌<◌, min, length, ap, ◌∙◌, arith}
+use Rattle.std.proofs.Common.{◌<◌, min, length, ap, ◌∙◌, arith}
 use Rattle.std.proofs.lemmas.List.{get_or_default}
 use Rattle.ops.specs.Log.{kept}
 use Rattle.replicas.proofs.machine.Replica.known.Goals as goal

@@ -1,4 +1,4 @@
-use Rattle.std.proofs.Common.{refl, arith}
+use Rattle.std.proofs.Common.{refl}
 use Rattle.desks.specs.Entry.{event_of}
 use Rattle.replicas.proofs.Runs.{word_no, word_none, word_some, word_else}
 use Rattle.replicas.proofs.machine.Replica.word.Goals as goal

@@ -1,4 +1,4 @@
-use Rattle.std.proofs.Common.{◌≡◌, ◌<◌, ◌≤◌, length, vec_items, sym, ap, ◌∙◌, arith}
+use Rattle.std.proofs.Common.{◌<◌, ◌≤◌, length, vec_items, arith}
 use Rattle.std.proofs.lemmas.List.{length-map}
 use Rattle.simulator.specs.Rooms.{note_of}
 use Rattle.simulator.proofs.Playing.{cannot_come, came_one, came_after, reached_next, within}

@@ -1,4 +1,4 @@
-use Rattle.std.proofs.Common.{◌<◌, ◌≤◌, map, length, vec_items, arith}
+use Rattle.std.proofs.Common.{◌<◌, map, length, vec_items, arith}
 use Rattle.simulator.specs.Rooms.{note_of}
 use Rattle.simulator.proofs.Looking.{noted, note-there}
 use Rattle.simulator.proofs.room.Room.letter.Goals as goal

@@ -1,4 +1,4 @@
-use Rattle.std.proofs.Common.{sym, ◌∙◌, arith}
+use Rattle.std.proofs.Common.{◌∙◌, arith}
 use Rattle.simulator.proofs.Playing.{cannot_meet, met_well, met_ill, met_after, reached_next, both_near}
 use Rattle.simulator.proofs.room.Room.meet.Goals as goal
 

@@ -1,4 +1,4 @@
-use Rattle.std.proofs.Common.{◌≡◌, ◌+◌, map, sym, ap, ◌∙◌, arith}
+use Rattle.std.proofs.Common.{◌≡◌, map, ap, ◌∙◌, arith}
 use Rattle.ops.specs.Doc.{each}
 use Rattle.desks.specs.Promise.{up_to, opened}
 use Rattle.desks.specs.Entry.{own}

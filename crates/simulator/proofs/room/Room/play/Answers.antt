@@ -1,5 +1,3 @@
-use Rattle.std.proofs.Common.{sym, subst}
-use Rattle.simulator.specs.Play.{view, item_of, Plays, Played}
 use Rattle.simulator.proofs.Playing.{rightly, of_item, of_made}
 use Rattle.simulator.proofs.room.Room.play.Goals as goal
 

@@ -1,4 +1,3 @@
-use Rattle.std.proofs.Common.{arith}
 use Rattle.simulator.proofs.Playing.{cannot_at, told_at, reached_next, within}
 use Rattle.simulator.proofs.room.Room.tell.Goals as goal
 

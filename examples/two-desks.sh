@@ -2,7 +2,7 @@
 # Two desks write under the same key without asking each other, carry a letter each way as a file, and then read the same.
 set -eu
 cd "$(dirname "$0")/.."
-echo 'proving and building the keyboard, which takes a minute or some the first time ..' >&2
+echo 'proving and building the keyboard, which takes some minutes the first time ..' >&2
 (cd crates/keyboard && rt run -- 0 < /dev/null > /dev/null 2>&1) || { echo "the keyboard does not build: run 'rt run' in crates/keyboard to see why" >&2; exit 1; }
 keyboard=$PWD/crates/keyboard/out/keyboard
 folder=$(mktemp -d)

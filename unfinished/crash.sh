@@ -3,8 +3,8 @@
 set -eu
 cd "$(dirname "$0")/.."
 echo 'proving and building the keyboard, which takes some minutes the first time ..' >&2
-rt check keyboard > /dev/null || { echo "the keyboard does not build: run 'rt check keyboard' to see why" >&2; exit 1; }
-keyboard=$PWD/target/bin/keyboard
+(cd crates/book_keyboard && rt run -- 0 < /dev/null > /dev/null 2>&1) || { echo "the keyboard does not build: run 'rt run' in crates/book_keyboard to see why" >&2; exit 1; }
+keyboard=$PWD/crates/book_keyboard/out/book_keyboard
 folder=$(mktemp -d)
 trap 'rm -rf "$folder"' EXIT
 cd "$folder"

@@ -1,5 +1,5 @@
 // The vocabulary: a room, what can happen in it, and what is answered.
-ghost use Rattle.std.specs.Prelude.{◌≡◌, ◌≤◌, vec_len};
+ghost use Rattle.std.specs.Prelude.{◌≡◌, vec_len};
 ghost use Rattle.simulator.specs.Rooms.{Reached};
 
 use crate::letter::Letter;

@@ -1,6 +1,4 @@
 // What desks, papers and plain desks show, and whether it is the same.
-ghost use Rattle.std.specs.Prelude.{◌≡◌};
-ghost use Rattle.ops.specs.Doc.{word_at, count_at};
 ghost use Rattle.papers.specs.Papers.{deeds_of};
 ghost use Rattle.witnesses.specs.Sights.{KeyOf};
 

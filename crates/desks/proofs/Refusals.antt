@@ -58,16 +58,16 @@ large_is : (k : ℕ) → (k < 4294967296 → ⊥) → is_small k ≡ false
 large_is k h = le-ltb k 4294967296 (omega arith)
 
 -- a write or an add of two numbers
-abbrev Deed-refusal : List ℕ → ℕ → ℕ → ℕ
-Deed-refusal m k v = pick (is_small k && is_small v) (pick (has_room m (me m)) 0 7) 1
+abbrev deed_refusal : List ℕ → ℕ → ℕ → ℕ
+deed_refusal m k v = pick (is_small k && is_small v) (pick (has_room m (me m)) 0 7) 1
 
-key_large : (m : List ℕ) (k v : ℕ) → (k < 4294967296 → ⊥) → Deed-refusal m k v ≡ 1
+key_large : (m : List ℕ) (k v : ℕ) → (k < 4294967296 → ⊥) → deed_refusal m k v ≡ 1
 key_large m k v h = ap (λ b. pick (b && is_small v) (pick (has_room m (me m)) 0 7) 1) (large_is k h)
 
-value_large : (m : List ℕ) (k v : ℕ) → k < 4294967296 → (v < 4294967296 → ⊥) → Deed-refusal m k v ≡ 1
+value_large : (m : List ℕ) (k v : ℕ) → k < 4294967296 → (v < 4294967296 → ⊥) → deed_refusal m k v ≡ 1
 value_large m k v h i = ap₂ (λ b c. pick (b && c) (pick (has_room m (me m)) 0 7) 1) (small_is k h) (large_is v i)
 
-both_small : (m : List ℕ) (k v : ℕ) (b : Bool) → k < 4294967296 → v < 4294967296 → has_room m (me m) ≡ b → Deed-refusal m k v ≡ pick b 0 7
+both_small : (m : List ℕ) (k v : ℕ) (b : Bool) → k < 4294967296 → v < 4294967296 → has_room m (me m) ≡ b → deed_refusal m k v ≡ pick b 0 7
 both_small m k v b h i r = λ j. pick (small_is k h j && small_is v i j) (pick (r j) 0 7) 1
 
 module _ (m : List ℕ) (k v : ℕ) (o : 0 < get_or m 0 0) where

@@ -20,14 +20,14 @@ abbrev bytes_to_come : ℕ → ℕ → ℕ → List (List ℕ) → ℕ
 bytes_to_come n i j ms₁ = traffic (to_come n i j ms₁) i j (get_or ms₁ i []) (get_or ms₁ j [])
 
 -- p pairs are behind them, of so many bytes, and the memories are ms₁ now
-pub record Under-way (ms : List (List ℕ)) (i j p : ℕ) (fair : Bool) (size : ℕ) (ms₁ : List (List ℕ)) : Type 0 where
+pub record UnderWay (ms : List (List ℕ)) (i j p : ℕ) (fair : Bool) (size : ℕ) (ms₁ : List (List ℕ)) : Type 0 where
   pub others : ms₁ ≡ set (set ms i (get_or ms₁ i [])) j (get_or ms₁ j [])
   pub leads : whole ms i j ≡ exchange (to_come (most ms i j - p) i j ms₁) 3 own i j (get_or ms₁ i []) (get_or ms₁ j []) fair
   pub many : pairs (most ms i j) i j (get_or ms i []) (get_or ms j []) ≡ p + to_come (most ms i j - p) i j ms₁
   pub long : meeting_bytes i j (get_or ms i []) (get_or ms j []) ≡ size + bytes_to_come (most ms i j - p) i j ms₁
   pub short : size ≤ 8192 * p
 
-pub sets_out : (ms : List (List ℕ)) (i j : ℕ) → Under-way ms i j 0 true 0 ms
+pub sets_out : (ms : List (List ℕ)) (i j : ℕ) → UnderWay ms i j 0 true 0 ms
 sets_out ms i j =
     let e : most ms i j - 0 ≡ most ms i j = omega arith in
     record {
@@ -64,26 +64,26 @@ unfolding traffic
 more_traffic k i j a b = refl
 
 -- THE END
-ends : (ms ms₁ : List (List ℕ)) (i j p : ℕ) (fair : Bool) (size : ℕ) → Under-way ms i j p fair size ms₁ → to_come (most ms i j - p) i j ms₁ ≡ 0 → Met ms i j p fair size ms₁
+ends : (ms ms₁ : List (List ℕ)) (i j p : ℕ) (fair : Bool) (size : ℕ) → UnderWay ms i j p fair size ms₁ → to_come (most ms i j - p) i j ms₁ ≡ 0 → Met ms i j p fair size ms₁
 ends ms ms₁ i j p fair size u z =
     let t : whole ms i j ≡ record { one = get_or ms₁ i []; other = get_or ms₁ j []; fair = fair } =
     u.leads ∙ (ap (λ n. exchange n 3 own i j (get_or ms₁ i []) (get_or ms₁ j []) fair) z ∙ nothing_more i j (get_or ms₁ i []) (get_or ms₁ j []) fair) in
     record { after = u.others ∙ (λ k. with_two ms i j (sym t k)); fair = λ k. (sym t k).fair; many = sym (u.many ∙ omega (arith, z)); long = sym (u.long ∙ (ap (λ n. size + traffic n i j (get_or ms₁ i []) (get_or ms₁ j [])) z ∙ (ap (λ n. size + n) (no-traffic i j (get_or ms₁ i []) (get_or ms₁ j [])) ∙ omega arith))) }
 
-pub ends_level : (ms ms₁ : List (List ℕ)) (i j p : ℕ) (fair : Bool) (size : ℕ) → Under-way ms i j p fair size ms₁ → p < most ms i j → true ≡ level (get_or ms₁ i []) (get_or ms₁ j []) → Met ms i j p fair size ms₁
+pub ends_level : (ms ms₁ : List (List ℕ)) (i j p : ℕ) (fair : Bool) (size : ℕ) → UnderWay ms i j p fair size ms₁ → p < most ms i j → true ≡ level (get_or ms₁ i []) (get_or ms₁ j []) → Met ms i j p fair size ms₁
 ends_level ms ms₁ i j p fair size u l e =
     let m : most ms i j - p ≡ suc (most ms i j - (p + 1)) = omega arith in
     ends ms ms₁ i j p fair size u (ap (λ n. to_come n i j ms₁) m ∙ none_to_come (most ms i j - (p + 1)) i j (get_or ms₁ i []) (get_or ms₁ j []) (sym e))
 
-pub ends_all : (ms ms₁ : List (List ℕ)) (i j p : ℕ) (fair : Bool) (size : ℕ) → Under-way ms i j p fair size ms₁ → p ≡ most ms i j → Met ms i j p fair size ms₁
+pub ends_all : (ms ms₁ : List (List ℕ)) (i j p : ℕ) (fair : Bool) (size : ℕ) → UnderWay ms i j p fair size ms₁ → p ≡ most ms i j → Met ms i j p fair size ms₁
 unfolding pairs
 ends_all ms ms₁ i j p fair size u e =
     let m : most ms i j - p ≡ 0 = omega arith in
     ends ms ms₁ i j p fair size u (ap (λ n. to_come n i j ms₁) m)
 
 -- A PAIR MORE
-pub goes_on : (ms ms₁ ms₂ : List (List ℕ)) (i j p : ℕ) (fair well : Bool) (size n : ℕ) → i < length ms₁ → j < length ms₁ → (i ≡ j → ⊥) → Under-way ms i j p fair size ms₁ → p < most ms i j →
-    false ≡ level (get_or ms₁ i []) (get_or ms₁ j []) → Paired ms₁ i j well n ms₂ → Under-way ms i j (p + 1) (fair && well) (size + n) ms₂
+pub goes_on : (ms ms₁ ms₂ : List (List ℕ)) (i j p : ℕ) (fair well : Bool) (size n : ℕ) → i < length ms₁ → j < length ms₁ → (i ≡ j → ⊥) → UnderWay ms i j p fair size ms₁ → p < most ms i j →
+    false ≡ level (get_or ms₁ i []) (get_or ms₁ j []) → Paired ms₁ i j well n ms₂ → UnderWay ms i j (p + 1) (fair && well) (size + n) ms₂
 goes_on ms ms₁ ms₂ i j p fair well size new hi hj ne u l e q =
     let a : List ℕ = get_or ms₁ i [] in
     let b : List ℕ = get_or ms₁ j [] in

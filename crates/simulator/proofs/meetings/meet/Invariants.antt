@@ -1,9 +1,9 @@
 use Rattle.std.proofs.Common.{◌≡◌, vec_len}
 use Rattle.simulator.specs.Rooms.{memories}
-use Rattle.simulator.proofs.UnderWay.{Under-way}
+use Rattle.simulator.proofs.UnderWay.{UnderWay}
 use Rattle.simulator.proofs.meetings.meet.Given as goal
 
 abbrev pub invariant-loop-pairs : goal.invariant-loop-pairs
 invariant-loop-pairs l =
     (vec_len l.desks ≡ vec_len l.initial.desks)
-    × Under-way (memories l.initial.desks) l.one l.other l.pairs l.fair l.bytes (memories l.desks)
+    × UnderWay (memories l.initial.desks) l.one l.other l.pairs l.fair l.bytes (memories l.desks)

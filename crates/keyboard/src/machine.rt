@@ -1,5 +1,6 @@
 // The machine with all that is lent to it: a desk's memory, a row for the numbers that it shows, and one for the bytes that it sends.
 ghost use Rattle.std.specs.Prelude.{◌≡◌, ◌++◌, take, IfOk, vec_len, OnOk};
+ghost use Rattle.desks.specs.Entry.{own};
 ghost use Rattle.keyboard.specs.Kept.{shown_of, sent_of};
 
 use crate::trouble::Trouble;
@@ -39,8 +40,9 @@ pub struct Machine {
 }
 
 impl Machine {
+    // A machine at its start.
     pub fn new(heap: Global) -> Result<Machine, AllocError>
-        ensures { IfOk result (λ m. (vec_len m.memory ≡ 50272) × (vec_len m.row ≡ 8192) × (vec_len m.bytes ≡ 4096)) }
+        ensures { IfOk result (λ m. (vec_len m.memory ≡ 50272) × (vec_len m.row ≡ 8192) × (vec_len m.bytes ≡ 4096) × (m.memory.items ≡ own.start)) }
     {
         Ok(Machine {
             memory: vec![in heap; 0; desks::MEMORY_SIZE]?,

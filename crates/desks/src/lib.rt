@@ -8,9 +8,14 @@ ghost use Rattle.std.specs.Prelude.{◌≡◌, ◌+◌, ◌*◌, ◌<◌, length
 ghost use Rattle.ops.specs.Doc.{id_before};
 ghost use Rattle.desks.specs.Entry.{NewestSays, are_names, name_at, StepSays, step_fits};
 
+use crate::report::{done, no, sent, shown_rest, shown_word};
 use ops::Memory;
 
-mod parts;
+pub mod acts;
+mod refusal;
+mod report;
+
+pub use refusal::Refusal;
 
 // How many cells a desk has.
 pub const MEMORY_SIZE: usize = ops::layout::SIZE;
@@ -114,17 +119,17 @@ pub fn step(
     ensures { StepSays memory.old kind a b letter.now row.old out.old (step_fits memory.old kind letter.now row.old out.old) result memory.new row.new out.new }
 {
     if !fits(memory, kind, letter, row, out) {
-        return Told::No(0);
+        return no(Refusal::Unfit);
     }
     let mut memory = Memory { cells: memory };
     match kind {
-        OPEN => parts::open(&mut memory, a),
-        WRITE => parts::write(&mut memory, a, b),
-        ADD => parts::add(&mut memory, a, b),
-        SHOW_KEY => parts::show_word(&mut memory, a, row),
-        SEND => parts::send(&mut memory, a, out),
-        READ => parts::hear(&mut memory, a, letter),
-        GO_ON => parts::go_on(&mut memory, row),
-        _ => Told::No(parts::refusal_of_unknown(&memory)),
+        OPEN => done(acts::open(&mut memory, a)),
+        WRITE => done(acts::write(&mut memory, a, b)),
+        ADD => done(acts::add(&mut memory, a, b)),
+        SHOW_KEY => shown_word(acts::show_key(&mut memory, a), row),
+        SEND => sent(acts::send(&mut memory, a, out)),
+        READ => done(acts::read(&mut memory, a, letter)),
+        GO_ON => shown_rest(acts::go_on(&mut memory), row),
+        _ => no(acts::refusal_of_unknown(&memory)),
     }
 }

@@ -1,10 +1,10 @@
 use Rattle.std.proofs.Common.{arith, rules}
-use Rattle.desks.proofs.Sizes.{fits_memory, fits_kind, fits_row, fits_out}
-use Rattle.desks.proofs.Dispatch.{misfit, step_quiet, step_shown, step_sent, step_unknown, told_open, told_write, told_add, told_show, told_send, told_hear, told_next}
+use Rattle.desks.proofs.Sizes.{fits_memory, fits_kind, fits_row}
+use Rattle.desks.proofs.Dispatch.{misfit, stepped, stepped_sent, step_unknown, told_open, told_write, told_add, told_show, told_send, told_hear, told_next}
 use Rattle.desks.proofs.step.Goals as goal
 
 pub returns-then-not-fits : goal.returns-then-not-fits
-returns-then-not-fits c = misfit _ _ _ _ _ _ _ c.if-not-fits.ensures
+returns-then-not-fits c = misfit _ _ _ _ _ _ _ c.if-not-fits.ensures _ c.no.ensures
 
 pub invariant_of-memory : goal.invariant_of-memory
 invariant_of-memory c = record { long = let e = fits_memory _ _ _ _ _ c.if-not-fits.ensures in omega arith }
@@ -31,36 +31,31 @@ pub invariant_of-memory-in_default : goal.invariant_of-memory-in_default
 invariant_of-memory-in_default c = record { long = let e = fits_memory _ _ _ _ _ c.if-not-fits.ensures in omega arith }
 
 pub returns-in-0 : goal.returns-in-0
-returns-in-0 c = step_quiet _ _ _ _ _ _ _ _ c.if-not-fits.ensures _ (told_open _ _ _ _ c.in-0.is) _ _ (search rules) c.open.ensures
+returns-in-0 c = stepped _ _ _ _ _ _ _ _ _ _ c.if-not-fits.ensures _ (told_open _ _ _ _ c.in-0.is) _ _ (search rules) _ c.open.ensures (c.done.ensures _ _)
 
 pub returns-in-3 : goal.returns-in-3
-returns-in-3 c = step_quiet _ _ _ _ _ _ _ _ c.if-not-fits.ensures _ (told_write _ _ _ _ c.in-3.is) _ _ (search rules) c.write.ensures
+returns-in-3 c = stepped _ _ _ _ _ _ _ _ _ _ c.if-not-fits.ensures _ (told_write _ _ _ _ c.in-3.is) _ _ (search rules) _ c.write.ensures (c.done-in-3.ensures _ _)
 
 pub returns-in-4 : goal.returns-in-4
-returns-in-4 c = step_quiet _ _ _ _ _ _ _ _ c.if-not-fits.ensures _ (told_add _ _ _ _ c.in-4.is) _ _ (search rules) c.add.ensures
+returns-in-4 c = stepped _ _ _ _ _ _ _ _ _ _ c.if-not-fits.ensures _ (told_add _ _ _ _ c.in-4.is) _ _ (search rules) _ c.add.ensures (c.done-in-4.ensures _ _)
 
 pub returns-in-6 : goal.returns-in-6
-returns-in-6 c = step_shown _ _ _ _ _ _ _ _ c.if-not-fits.ensures _ (told_show _ _ _ _ c.in-6.is) _ _ (search rules) _ c.show_word.ensures
+returns-in-6 c = stepped _ _ _ _ _ _ _ _ _ _ c.if-not-fits.ensures _ (told_show _ _ _ _ c.in-6.is) _ _ (search rules) _ c.show_key.ensures (c.shown_word.ensures _)
 
 pub returns-in-7 : goal.returns-in-7
-returns-in-7 c = step_sent _ _ _ _ _ _ _ _ c.if-not-fits.ensures _ (told_send _ _ _ _ c.in-7.is) _ _ (search rules) _ c.send.ensures
+returns-in-7 c = stepped_sent _ _ _ _ _ _ _ _ _ c.if-not-fits.ensures _ (told_send _ _ _ _ c.in-7.is) _ _ (search rules) _ c.send.ensures c.sent.ensures
 
 pub returns-in-8 : goal.returns-in-8
-returns-in-8 c = step_quiet _ _ _ _ _ _ _ _ c.if-not-fits.ensures _ (told_hear _ _ _ _ c.in-8.is) _ _ (search rules) c.hear.ensures
+returns-in-8 c = stepped _ _ _ _ _ _ _ _ _ _ c.if-not-fits.ensures _ (told_hear _ _ _ _ c.in-8.is) _ _ (search rules) _ c.read.ensures (c.done-in-8.ensures _ _)
 
 pub returns-in-9 : goal.returns-in-9
-returns-in-9 c = step_shown _ _ _ _ _ _ _ _ c.if-not-fits.ensures _ (told_next _ _ _ _ c.in-9.is) _ _ (search rules) _ c.go_on.ensures
+returns-in-9 c = stepped _ _ _ _ _ _ _ _ _ _ c.if-not-fits.ensures _ (told_next _ _ _ _ c.in-9.is) _ _ (search rules) _ c.go_on.ensures (c.shown_rest.ensures _)
 
-pub show_word-requires : goal.show_word-requires
-show_word-requires c = fits_row _ _ _ _ _ c.if-not-fits.ensures
+pub shown_word-requires : goal.shown_word-requires
+shown_word-requires c = let e = fits_row _ _ _ _ _ c.if-not-fits.ensures in omega arith
 
-pub send-requires : goal.send-requires
-send-requires c = fits_out _ _ _ _ _ c.if-not-fits.ensures
-
-pub go_on-requires : goal.go_on-requires
-go_on-requires c = fits_row _ _ _ _ _ c.if-not-fits.ensures
+pub shown_rest-requires : goal.shown_rest-requires
+shown_rest-requires c = let e = fits_row _ _ _ _ _ c.if-not-fits.ensures in omega arith
 
 pub returns-in_default : goal.returns-in_default
-returns-in_default c =
-    step_unknown _ _ _ _ _ _ _ _ c.if-not-fits.ensures (fits_kind _ _ _ _ _ c.if-not-fits.ensures) (omega arith) (omega arith) (omega arith) (omega arith) (omega arith) (omega arith) (omega arith)
-    c.refusal_of_unknown.ensures _ (search rules)
+returns-in_default c = step_unknown _ _ _ _ _ _ _ _ c.if-not-fits.ensures (fits_kind _ _ _ _ _ c.if-not-fits.ensures) (omega arith) (omega arith) (omega arith) (omega arith) (omega arith) (omega arith) (omega arith) c.refusal_of_unknown.ensures _ (search rules) _ c.no-in_default.ensures

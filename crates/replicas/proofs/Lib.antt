@@ -1,4 +1,3 @@
 pub mod Stepping
-pub mod Acts
 pub mod Runs
 pub mod Levels

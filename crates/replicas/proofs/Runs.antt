@@ -1,17 +1,20 @@
 -- How a machine runs on from its first act, whatever stands in its memory.
-use Rattle.std.proofs.Common.{◌≡◌, ℕ, zero, suc, ◌<◌, ◌≤◌, true, false, ltb, leb, ◌⊎◌, List, [], ◌∷◌, ◌++◌, length, get_or, take, drop, replicate, Some, None, Ok, Err, Option, Result, sym, refl, ap, ◌∙◌, subst, inl, inr, ⊎_elim, arith, get_or-set_other, get_or-set_same}
+use Rattle.std.proofs.Common.{◌≡◌, ℕ, zero, suc, ◌<◌, ◌≤◌, Bool, true, false, ltb, leb, ◌⊎◌, List, [], ◌∷◌, ◌++◌, length, get_or, take, drop, replicate, Some, None, Ok, Err, Option, Result, sym, refl, ap, ◌∙◌, subst, inl, inr, ⊎_elim, arith, get_or-set_other, get_or-set_same}
 use Rattle.std.proofs.lemmas.Bool.{ltb-true, leb-true, le-leb, lt-leb, and_parts, both_ways}
-use Rattle.std.specs.Option.{option_to_list}
-use Rattle.ops.specs.Doc.{pick, those, is_under, newest_first, first_word, Op, insert, strike, write_under, add_to, show_text, show_key, word_at, count_at}
+use Rattle.std.specs.Option.{MatchOption, IsSomeAnd, option_to_list, unwrap_or}
+use Rattle.std.specs.Result.{IsErrAnd}
+use Rattle.ops.specs.Doc.{pick, Op, insert, strike, write_under, add_to, show_text, show_key, word_at, count_at}
 use Rattle.ops.specs.Layout.{memory_size}
 use Rattle.ops.specs.Log.{ops_of}
 use Rattle.messages.specs.Letter.{letter_for}
 use Rattle.desks.specs.Run.{Event, opens, said, letter_to, hears, next, Act, shows, sends, done, refused, Step, Ran, ran, a_letter, runs_on}
 use Rattle.desks.specs.Machine.{blank, me, is_peer, is_small, idle, says, does_said, does, refusal_said, refusal, step_own}
 use Rattle.desks.specs.Promise.{opened}
-use Rattle.desks.specs.Entry.{own, ActTold}
-use Rattle.desks.specs.declared.Told.{Told}
-use Rattle.desks.specs.declared.Told.TheVariants.{Shows, Sends, No}
+use Rattle.desks.specs.Entry.{own}
+use Rattle.desks.specs.Refusals.{number_of}
+use Rattle.desks.specs.Acts.{quiet, word, rest, posted}
+use Rattle.desks.specs.declared.refusal.Refusal.{Refusal}
+use Rattle.desks.specs.declared.refusal.Refusal.TheVariants.{Unfit, Malformed}
 use Rattle.desks.proofs.Telling.{accepts, refuses}
 use Rattle.network.proofs.OwnRep.{nothing_left}
 use Rattle.network.proofs.OwnRuns.{own_refused, own_sends}
@@ -19,10 +22,15 @@ use Rattle.network.proofs.Runs.{run_done}
 use Rattle.network.proofs.OwnWriting.{letter-fits}
 use Rattle.network.proofs.Passed.{few_refusals, opened_passed, pick_passed}
 use Rattle.network.proofs.OwnShowing.{m₁, m₂, shows_word, shows_tally, shows_both}
-use Rattle.replicas.specs.Steps.{shows_nothing, is_quiet, WordShown, NumberShown}
-use Rattle.replicas.specs.Replica.{command_of, Did, Showed, Sent, WritesIf, Writes, Reads, Read}
+use Rattle.replicas.specs.Steps.{Tells, Posts, PostsIf, shows_nothing, is_quiet}
+use Rattle.replicas.specs.declared.machine.Replica.{Replica}
+use Rattle.replicas.specs.declared.machine.Key.{Key}
+use Rattle.replicas.specs.declared.fault.Fault.{Fault}
+use Rattle.replicas.specs.declared.fault.Fault.TheVariants.{Refused}
 use Rattle.replicas.specs.declared.machine.Deed.{Deed}
-use Rattle.replicas.proofs.Acts.{told-no, refused_told, shows_told, sends_told, written, written_first}
+use Rattle.replicas.specs.declared.machine.Deed.TheVariants.{Insert, Strike, Write, Add}
+use Rattle.std.proofs.lemmas.List.{length-take-le}
+use Rattle.replicas.specs.Replica.{command_of, Did, Showed, Sent, WritesIf, Reads, Read, Opened}
 
 own_is : (m : List ℕ) (ev : Event) → own.step m ev ≡ step_own m ev
 unfolding own
@@ -83,37 +91,52 @@ does_quietly m (letter_to j) q = absurd (both_ways false refl q)
 does_quietly m (hears i bs) q = refl
 does_quietly m next q = absurd (both_ways false refl q)
 
-did_no : (m l : List ℕ) (ev : Event) (k : ℕ) → l ≡ (own.step m ev).memory → Refusing m ev k → Did (runs_on 3 own m ev) (Err k) l
+did_no : (m l : List ℕ) (ev : Event) (k : Refusal) → l ≡ (step_own m ev).memory → Refusing m ev (number_of k) → Did (runs_on 3 own m ev) (Err k) l
 did_no m l ev k e r =
     let p = r.run in
     record {
-      memory = e ∙ (r.same ∙ sym (ap (λ (x : Ran). x.memory) p));
+      memory = e ∙ (sym (ap (λ (s : Step). s.memory) (own_is m ev)) ∙ (r.same ∙ sym (ap (λ (x : Ran). x.memory) p)));
       ended = (ap (λ (x : Ran). x.end) p, r.number);
       none_shown = ap (λ (x : Ran). x.showed) p;
       none_sent = ap (λ (x : Ran). x.sent) p;
     }
 
-did_ok : (m l : List ℕ) (ev : Event) → l ≡ (own.step m ev).memory → (own.step m ev).act ≡ done → Did (runs_on 3 own m ev) (Ok tt) l
+did_ok : (m l : List ℕ) (ev : Event) → l ≡ (step_own m ev).memory → (step_own m ev).act ≡ done → Did (runs_on 3 own m ev) (Ok tt) l
 did_ok m l ev e d =
-    let p = run_done own m ev d in
+    let p = run_done own m ev (ap (λ (s : Step). s.act) (own_is m ev) ∙ d) in
     record {
-      memory = e ∙ sym (ap (λ (x : Ran). x.memory) p);
+      memory = e ∙ (sym (ap (λ (s : Step). s.memory) (own_is m ev)) ∙ sym (ap (λ (x : Ran). x.memory) p));
       ended = ap (λ (x : Ran). x.end) p;
       none_shown = ap (λ (x : Ran). x.showed) p;
       none_sent = ap (λ (x : Ran). x.sent) p;
     }
 
-module _ (m l row row₁ out out₁ : List ℕ) (ev : Event) (e : l ≡ (own.step m ev).memory) where
-  pub quiet_no : (k : ℕ) → is_quiet ev ≡ true → ActTold (own.step m ev).act (No k) row row₁ out out₁ → Did (runs_on 3 own m ev) (Err k) l
-  quiet_no k q t = did_no m l ev k e (never_no m ev k (ap is_no (does_quietly m ev q)) (told-no row row₁ out out₁ _ k t))
+pub did : (m l : List ℕ) (ev : Event) (r : Result (Unit {0}) Refusal) → is_quiet ev ≡ true → Tells (step_own m ev) (quiet r) l → Did (runs_on 3 own m ev) r l
+did m l ev (Ok v) q t = did_ok m l ev t.memory t.act
+did m l ev (Err k) q t = did_no m l ev k t.memory (never_no m ev (number_of k) (ap is_no (does_quietly m ev q)) (ap (λ (s : Step). s.act) (own_is m ev) ∙ t.act))
 
-  pub quiet_done : (r : Told) → is_quiet ev ≡ true → ActTold (own.step m ev).act r row row₁ out out₁ → ((k : ℕ) → r ≡ No k → ⊥) → Did (runs_on 3 own m ev) (Ok tt) l
-  quiet_done r q t not-no =
-      ⊎_elim (λ x. absurd (not-no x.0 (refused_told row row₁ out out₁ x.0 r (subst (λ a. ActTold a r row row₁ out out₁) x.1 t))))
-      (λ z. did_ok m l ev e (ap (λ (s : Step). s.act) (accepted_step m ev z) ∙ does_quietly m ev q)) (either m ev)
+-- deeds are quiet
+pub deed_quiet : (d : Deed) → is_quiet (said (command_of d)) ≡ true
+unfolding is_quiet shows_nothing
+deed_quiet (Insert place sign) = refl
+deed_quiet (Strike place) = refl
+deed_quiet (Write key word) = refl
+deed_quiet (Add key amount) = refl
+
+pub text_quiet : is_quiet (said show_text) ≡ true
+unfolding is_quiet shows_nothing
+text_quiet = refl
+
+pub heard_quiet : (i : ℕ) (bs : List ℕ) → is_quiet (hears i bs) ≡ true
+unfolding is_quiet
+heard_quiet i bs = refl
+
+pub open_quiet : (i : ℕ) → is_quiet (opens i) ≡ true
+unfolding is_quiet
+open_quiet i = refl
 
 -- A LETTER IS MADE
-module _ (m l row row₁ out out₁ : List ℕ) (j : ℕ) (long : length m ≡ memory_size) (e : l ≡ (own.step m (letter_to j)).memory) where
+module _ (m l out out₁ : List ℕ) (j : ℕ) (long : length m ≡ memory_size) where
   abbrev letter : List ℕ
   letter = letter_for m (me m) j
 
@@ -135,144 +158,118 @@ module _ (m l row row₁ out out₁ : List ℕ) (j : ℕ) (long : length m ≡ m
       let same = get_or-set_other m 1 0 0 0 (omega arith) in
       own_sends m (idle m) (idle m) letter (letter_to j) p.1 (sends_it z) (nothing_left (idle m) (omega arith) (get_or-set_same m 1 0 0 (omega arith)))
 
-  letter_act : refusal m (letter_to j) ≡ 0 → (own.step m (letter_to j)).act ≡ sends letter
-  letter_act z = ap (λ (s : Step). s.act) (own_is m (letter_to j) ∙ sends_it z)
-
   no-refusal : is_no (does m (letter_to j)).act ≡ 0
   unfolding does
   no-refusal = refl
 
-  pub letter-no : (k : ℕ) → ActTold (own.step m (letter_to j)).act (No k) row row₁ out out₁ → Sent (runs_on 3 own m (letter_to j)) (Err k) l out₁
-  letter-no k t =
-      let r = never_no m (letter_to j) k no-refusal (told-no row row₁ out out₁ _ k t) in
-      let d = did_no m l (letter_to j) k e r in
-      record { short = tt; memory = d.memory; ended = d.ended; none_shown = d.none_shown; sent = d.none_sent }
+  sends_inj : {a b : List ℕ} → sends a ≡ sends b → a ≡ b
+  sends_inj e = cc
 
-  pub letter_made : (r : Told) (n : ℕ) → r ≡ Sends n → ActTold (own.step m (letter_to j)).act r row row₁ out out₁ → Sent (runs_on 3 own m (letter_to j)) (Ok n) l out₁
-  letter_made r n er t =
+  wrote : (r : Result ℕ Refusal) → Posts (step_own m (letter_to j)) r l out out₁ → Sent (runs_on 3 own m (letter_to j)) r l out₁
+  wrote (Err k) t =
+      let d = did_no m l (letter_to j) k t.tells.memory (never_no m (letter_to j) (number_of k) no-refusal (ap (λ (s : Step). s.act) (own_is m (letter_to j)) ∙ t.tells.act)) in
+      record { short = tt; memory = d.memory; ended = d.ended; none_shown = d.none_shown; sent = d.none_sent }
+  wrote (Ok n) t =
       ⊎_elim
-      (λ x. let p = refused_told row row₁ out out₁ x.0 r (subst (λ a. ActTold a r row row₁ out out₁) x.1 t) in let z : ◌≡◌ {A = ℕ} 0 1 = cc in absurd (omega arith))
+      (λ x. let z : suc x.0 ≡ 0 = ap is_no (sym x.1 ∙ (ap (λ (s : Step). s.act) (own_is m (letter_to j)) ∙ t.tells.act)) in absurd (omega arith))
       (λ z.
-      let p = sends_told row row₁ out out₁ letter r (subst (λ a. ActTold a r row row₁ out out₁) (letter_act z) t) in
-      let p₀ = p.0 in
-      let size : length letter ≡ n = cc in
+      let same : letter ≡ take n out₁ = sends_inj (sym (ap (λ (s : Step). s.act) (sends_it z)) ∙ t.tells.act) in
+      let size : length letter ≡ n = ap length same ∙ length-take-le n out₁ t.front.0 in
       let q = letter-run z in
       let few = leb-true (length letter) 4096 (and_parts (leb (length letter) 4096) _ (passed z).1).0 in
       record {
         short = omega arith;
-        memory = e ∙ (ap (λ (s : Step). s.memory) (own_is m (letter_to j) ∙ sends_it z) ∙ sym (ap (λ (x : Ran). x.memory) q));
+        memory = t.tells.memory ∙ (ap (λ (s : Step). s.memory) (sends_it z) ∙ sym (ap (λ (x : Ran). x.memory) q));
         ended = ap (λ (x : Ran). x.end) q;
         none_shown = ap (λ (x : Ran). x.showed) q;
-        sent = ap (λ (x : Ran). x.sent) q ∙ ap (λ b. b ∷ []) (sym (written letter out out₁ p.1) ∙ ap (λ n. take n out₁) size);
+        sent = ap (λ (x : Ran). x.sent) q ∙ ap (λ b. b ∷ []) same;
       }) (either m (letter_to j))
 
-  pub letter_else : (r : Told) → ActTold (own.step m (letter_to j)).act r row row₁ out out₁ → ((n : ℕ) → r ≡ Sends n → ⊥) → ((k : ℕ) → r ≡ No k → ⊥) → ⊥
-  letter_else r t not-sends not-no =
-      ⊎_elim (λ x. not-no x.0 (refused_told row row₁ out out₁ x.0 r (subst (λ a. ActTold a r row row₁ out out₁) x.1 t)))
-      (λ z. not-sends (length letter) (sends_told row row₁ out out₁ letter r (subst (λ a. ActTold a r row row₁ out out₁) (letter_act z) t)).0) (either m (letter_to j))
+  pub writes : (b : Bool) (r : Result ℕ Refusal) → PostsIf b (step_own m (letter_to j)) r m l out out₁ → WritesIf b m j r l out out₁
+  writes true r t = wrote r t
+  writes false r t = record { said = t.said; memory = t.memory; bytes = t.bytes }
 
 -- A KEY IS SHOWN
--- a row with a word has one number at most
-first_few : (os : List Op) → (first_word os ≡ []) ⊎ ((x : ℕ) × (first_word os ≡ x ∷ []))
-unfolding first_word
-first_few [] = inl refl
-first_few (o ∷ os) = inr (_, refl)
+rest_shown : (r : Result (Option ℕ) Refusal) (x : ℕ) → rest r ≡ shows (x ∷ []) → r ≡ Ok (Some x)
+rest_shown (Ok None) x e = cc
+rest_shown (Ok (Some n)) x e = cc
+rest_shown (Err k) x e = cc
 
-module _ (m l row row₁ out out₁ : List ℕ) (k : ℕ) (e : l ≡ (own.step m (said (show_key k))).memory) where
-  word_act : refusal m (said (show_key k)) ≡ 0 → (own.step m (said (show_key k))).act ≡ shows (word_at (ops_of m) k)
-  unfolding does does_said
-  word_act z = ap (λ (s : Step). s.act) (accepted_step m (said (show_key k)) z)
+shown_row : {a b : List ℕ} → shows a ≡ shows b → a ≡ b
+shown_row e = cc
 
-  pub word_no : (n : ℕ) → ActTold (own.step m (said (show_key k))).act (No n) row row₁ out out₁ → WordShown (own.step m (said (show_key k))) (Err n) l
-  word_no n t = (told-no row row₁ out out₁ _ n t, e)
-
-  shown_is : (r : Told) (n : ℕ) → r ≡ Shows n → ActTold (own.step m (said (show_key k))).act r row row₁ out out₁ →
-      ((own.step m (said (show_key k))).act ≡ shows (word_at (ops_of m) k)) × (length (word_at (ops_of m) k) ≡ n) × (row₁ ≡ word_at (ops_of m) k ++ drop (length (word_at (ops_of m) k)) row)
-  shown_is r n er t =
-      ⊎_elim
-      (λ x. let p = refused_told row row₁ out out₁ x.0 r (subst (λ a. ActTold a r row row₁ out out₁) x.1 t) in let z : ◌≡◌ {A = ℕ} 0 1 = cc in absurd (omega arith))
-      (λ z.
-      let p = shows_told row row₁ out out₁ (word_at (ops_of m) k) r (subst (λ a. ActTold a r row row₁ out out₁) (word_act z) t) in
-      let p₀ = p.0 in
-      (word_act z, (cc), p.1)) (either m (said (show_key k)))
-
-  abbrev wordy : List ℕ
-  wordy = word_at (ops_of m) k
-
-  few : (wordy ≡ []) ⊎ ((x : ℕ) × (wordy ≡ x ∷ []))
-  few = first_few (newest_first (those (λ o. is_under k o.kind) (ops_of m)))
-
-  pub word_none : (r : Told) (n : ℕ) → r ≡ Shows n → n ≡ 0 → ActTold (own.step m (said (show_key k))).act r row row₁ out out₁ → WordShown (own.step m (said (show_key k))) (Ok None) l
-  word_none r n er z t =
-      let s = shown_is r n er t in
-      let s₁ = s.1 in
-      ⊎_elim (λ w. (s.0 ∙ ap shows w, e)) (λ w. let f = ap length w.1 in absurd (omega arith)) few
-
-  pub word_some : (r : Told) (n x : ℕ) → r ≡ Shows n → (n ≡ 0 → ⊥) → x ≡ get_or row₁ 0 x → ActTold (own.step m (said (show_key k))).act r row row₁ out out₁ →
-      WordShown (own.step m (said (show_key k))) (Ok (Some x)) l
-  word_some r n x er z ex t =
-      let s = shown_is r n er t in
-      let s₁ = s.1 in
-      ⊎_elim (λ w. let f = ap length w in absurd (z (omega arith)))
-      (λ w.
-      let g : row₁ ≡ (w.0 ∷ []) ++ drop 1 row = s.2 ∙ (λ i. w.1 i ++ drop (length (w.1 i)) row) in
-      (s.0 ∙ ap shows (w.1 ∙ ap (λ y. y ∷ []) (sym (ex ∙ written_first w.0 x row row₁ g))), e)) few
-
-  pub word_else : (r : Told) → ActTold (own.step m (said (show_key k))).act r row row₁ out out₁ → ((n : ℕ) → r ≡ Shows n → ⊥) → ((k : ℕ) → r ≡ No k → ⊥) → ⊥
-  word_else r t not-shows not-no =
-      ⊎_elim (λ x. not-no x.0 (refused_told row row₁ out out₁ x.0 r (subst (λ a. ActTold a r row row₁ out out₁) x.1 t)))
-      (λ z. not-shows (length wordy) (shows_told row row₁ out out₁ wordy r (subst (λ a. ActTold a r row row₁ out out₁) (word_act z) t)).0) (either m (said (show_key k)))
-
-pub number-shown : (m l row row₁ out out₁ : List ℕ) (r : Told) (x : ℕ) → l ≡ (own.step m next).memory → ActTold (own.step m next).act r row row₁ out out₁ → x ≡ get_or row₁ 0 x →
-    NumberShown (own.step m next) x l
-number-shown m l row row₁ out out₁ r x e t ex =
-    record {
-      value = λ y a. ex ∙ written_first y x row row₁ (shows_told row row₁ out out₁ (y ∷ []) r (subst (λ b. ActTold b r row row₁ out out₁) a t)).1;
-      memory = e;
-    }
-
-module _ (m l₁ l₂ : List ℕ) (k x : ℕ) where
-  pub key_no : (n : ℕ) → WordShown (own.step m (said (show_key k))) (Err n) l₁ → Showed (runs_on 3 own m (said (show_key k))) (Err n) l₁
+module _ (m l₁ l₂ : List ℕ) (k : ℕ) where
+  pub key_no : (n : Refusal) → Tells (step_own m (said (show_key k))) (word (Err n)) l₁ → Showed (runs_on 3 own m (said (show_key k))) (Err n) l₁
   unfolding does does_said
   key_no n h =
-      let d = did_no m l₁ (said (show_key k)) n h.1 (never_no m (said (show_key k)) n refl h.0) in
+      let d = did_no m l₁ (said (show_key k)) n h.memory (never_no m (said (show_key k)) (number_of n) refl (ap (λ (s : Step). s.act) (own_is m (said (show_key k))) ∙ h.act)) in
       record { memory = d.memory; ended = d.ended; shown = d.none_shown; none_sent = d.none_sent }
 
-  pub key_shown : (w : Option ℕ) → length m ≡ memory_size → WordShown (own.step m (said (show_key k))) (Ok w) l₁ → NumberShown (own.step l₁ next) x l₂ →
-      Showed (runs_on 3 own m (said (show_key k))) (Ok (record { word = w; tally = x })) l₂
+  -- the word, and then the tally: the one that goes on is shown, whatever it is
+  pub record Both (w : Option ℕ) (r : Result (Option ℕ) Refusal) : Type 0 where
+    pub tally : ℕ
+    pub is : r ≡ Ok (Some tally)
+    pub shown : Showed (runs_on 3 own m (said (show_key k))) (Ok (record { word = w; tally = tally })) l₂
+
+  pub key_shown : (w : Option ℕ) (r : Result (Option ℕ) Refusal) → length m ≡ memory_size → Tells (step_own m (said (show_key k))) (word (Ok w)) l₁ → Tells (step_own l₁ next) (rest r) l₂ → Both w r
   unfolding refusal refusal_said
-  key_shown w long h n =
-      ⊎_elim (λ r. let z : suc r.0 ≡ 0 = ap is_no (sym r.1 ∙ h.0) in absurd (omega arith))
+  key_shown w r long h n =
+      ⊎_elim (λ x. let z : suc x.0 ≡ 0 = ap is_no (sym x.1 ∙ (ap (λ (s : Step). s.act) (own_is m (said (show_key k))) ∙ h.act)) in absurd (omega arith))
       (λ z.
       let p = opened_passed m (pick (is_small k) 0 1) z in
       let small = ltb-true k 4294967296 (pick_passed (is_small k) 1 (omega arith) p.1) in
       let far : 2 < length m = omega arith in
-      let word : own.step m (said (show_key k)) ≡ says (m₁ m k p.0 far small) (shows (word_at (ops_of m) k)) = own_is m (said (show_key k)) ∙ shows_word m k p.0 far small in
-      let there : l₁ ≡ m₁ m k p.0 far small = h.1 ∙ ap (λ (s : Step). s.memory) word in
-      let tally : own.step l₁ next ≡ says (m₂ m k p.0 far small) (shows (count_at (ops_of m) k ∷ [])) =
-      ap (λ l. own.step l next) there ∙ (own_is (m₁ m k p.0 far small) next ∙ shows_tally m k p.0 far small) in
+      let shows_w : step_own m (said (show_key k)) ≡ says (m₁ m k p.0 far small) (shows (word_at (ops_of m) k)) = shows_word m k p.0 far small in
+      let there : l₁ ≡ m₁ m k p.0 far small = h.memory ∙ ap (λ (s : Step). s.memory) shows_w in
+      let tally : step_own l₁ next ≡ says (m₂ m k p.0 far small) (shows (count_at (ops_of m) k ∷ [])) =
+      ap (λ l. step_own l next) there ∙ shows_tally m k p.0 far small in
       let both = shows_both m k p.0 far small in
-      let row : word_at (ops_of m) k ≡ option_to_list w = shown_row (sym (ap (λ (s : Step). s.act) word) ∙ h.0) in
+      let row : word_at (ops_of m) k ≡ option_to_list w = shown_row (sym (ap (λ (s : Step). s.act) shows_w) ∙ h.act) in
       record {
-        memory = n.memory ∙ (ap (λ (s : Step). s.memory) tally ∙ sym (ap (λ (y : Ran). y.memory) both));
-        ended = ap (λ (y : Ran). y.end) both;
-        shown = ap (λ (y : Ran). y.showed) both ∙ (λ i. row i ∷ (sym (n.value (count_at (ops_of m) k) (ap (λ (s : Step). s.act) tally)) i ∷ []) ∷ []);
-        none_sent = ap (λ (y : Ran). y.sent) both;
+        tally = count_at (ops_of m) k;
+        is = rest_shown r (count_at (ops_of m) k) (sym n.act ∙ ap (λ (s : Step). s.act) tally);
+        shown = record {
+          memory = n.memory ∙ (ap (λ (s : Step). s.memory) tally ∙ sym (ap (λ (y : Ran). y.memory) both));
+          ended = ap (λ (y : Ran). y.end) both;
+          shown = ap (λ (y : Ran). y.showed) both ∙ (λ i. row i ∷ (count_at (ops_of m) k ∷ []) ∷ []);
+          none_sent = ap (λ (y : Ran). y.sent) both;
+        };
       }) (either m (said (show_key k)))
-    where
-      shown_row : {a b : List ℕ} → shows a ≡ shows b → a ≡ b
-      shown_row e = cc
 
--- a deed, by what the match on it told
-pub of_deed : (m l : List ℕ) (r : Result (Unit {0}) ℕ) {d d₁ : Deed} → d ≡ d₁ → Did (runs_on 3 own m (said (command_of d₁))) r l → Did (runs_on 3 own m (said (command_of d))) r l
-of_deed m l r e h = subst (λ d. Did (runs_on 3 own m (said (command_of d))) r l) (sym e) h
+-- the number that the map of a word hands on
+pub mapped : (o r : Option ℕ) → MatchOption o (r ≡ None) (λ x. IsSomeAnd r (λ y. y ≡ x)) → r ≡ o
+mapped None r h = h
+mapped (Some x) None h = absurd h
+mapped (Some x) (Some y) h = ap Some h
+
+-- what a `?` hands on
+pub showed_err : (x : Ran) (r : Result Key Refusal) (e : Refusal) (l : List ℕ) → IsErrAnd r (λ y. y ≡ e) → Showed x (Err e) l → Showed x r l
+showed_err x (Ok v) e l h s = absurd h
+showed_err x (Err y) e l h s = subst (λ z. Showed x (Err z) l) (sym h) s
+
+pub opened_err : (i : ℕ) (r : Result Replica Fault) (e : Refusal) → IsErrAnd r (λ f. f ≡ Refused e) → ((opened 3 own i).end ≡ number_of e) × (1 ≤ number_of e) → Opened i r
+opened_err i (Ok v) e h s = absurd h
+opened_err i (Err f) e h s = subst (λ g. Opened i (Err g)) (sym h) s
+
+pub no_rest : (m l₁ l₂ : List ℕ) (k : ℕ) (w : Option ℕ) (e : Refusal) → Both m l₁ l₂ k w (Err e) → ⊥
+no_rest m l₁ l₂ k w e b = let i = b.is in cc
+
+pub both_shown : (m l₁ l₂ : List ℕ) (k : ℕ) (w w₁ o : Option ℕ) (x : ℕ) → Both m l₁ l₂ k w (Ok o) → w₁ ≡ w → x ≡ unwrap_or o 0 → Showed (runs_on 3 own m (said (show_key k))) (Ok (record { word = w₁; tally = x })) l₂
+both_shown m l₁ l₂ k w w₁ o x b e f =
+    let i : o ≡ Some b.tally = ok_inj b.is in
+    let j : x ≡ b.tally = f ∙ ap (λ p. unwrap_or p 0) i in
+    subst (λ (v : Option ℕ). Showed (runs_on 3 own m (said (show_key k))) (Ok (record { word = v; tally = x })) l₂) (sym e)
+    (subst (λ (n : ℕ). Showed (runs_on 3 own m (said (show_key k))) (Ok (record { word = w; tally = n })) l₂) (sym j) b.shown)
+  where
+    ok_inj : {a c : Option ℕ} → ◌≡◌ {A = Result (Option ℕ) Refusal} (Ok a) (Ok c) → a ≡ c
+    ok_inj q = cc
 
 -- a letter that isn't too long
-pub read_short : (m : List ℕ) (i : ℕ) (bs : List ℕ) (r : Result (Unit {0}) ℕ) (l : List ℕ) → length bs ≤ 4096 → Did (runs_on 3 own m (hears i bs)) r l → Read m i bs r l
+pub read_short : (m : List ℕ) (i : ℕ) (bs : List ℕ) (r : Result (Unit {0}) Refusal) (l : List ℕ) → length bs ≤ 4096 → Did (runs_on 3 own m (hears i bs)) r l → Read m i bs r l
 read_short m i bs r l short h = subst (λ b. Reads b m i bs r l) (sym (le-leb (length bs) 4096 short)) h
 
-pub read-long : (m : List ℕ) (i : ℕ) (bs : List ℕ) → 4096 < length bs → Read m i bs (Err 1) m
-read-long m i bs far = subst (λ b. Reads b m i bs (Err 1) m) (sym (lt-leb (length bs) 4096 far)) (refl, refl)
+pub read-long : (m : List ℕ) (i : ℕ) (bs : List ℕ) → 4096 < length bs → Read m i bs (Err Malformed) m
+read-long m i bs far = subst (λ b. Reads b m i bs (Err Malformed) m) (sym (lt-leb (length bs) 4096 far)) (refl, refl)
 
 -- a memory of zeros is the machine's own at the start
 pub is_start : (m : List ℕ) → m ≡ replicate memory_size 0 → m ≡ own.start
@@ -282,13 +279,5 @@ is_start m e = e
 pub opened_ok : (i : ℕ) (m l : List ℕ) → m ≡ own.start → Did (runs_on 3 own m (opens i)) (Ok tt) l → ((opened 3 own i).end ≡ 0) × (l ≡ (opened 3 own i).memory)
 opened_ok i m l e h = (ap (λ x. (runs_on 3 own x (opens i)).end) (sym e) ∙ h.ended, h.memory ∙ ap (λ x. (runs_on 3 own x (opens i)).memory) e)
 
-pub opened-no : (i k : ℕ) (m l : List ℕ) → m ≡ own.start → Did (runs_on 3 own m (opens i)) (Err k) l → ((opened 3 own i).end ≡ k) × (1 ≤ k)
+pub opened-no : (i : ℕ) (k : Refusal) (m l : List ℕ) → m ≡ own.start → Did (runs_on 3 own m (opens i)) (Err k) l → ((opened 3 own i).end ≡ number_of k) × (1 ≤ number_of k)
 opened-no i k m l e h = (ap (λ x. (runs_on 3 own x (opens i)).end) (sym e) ∙ h.ended.0, h.ended.1)
-
--- a letter, where there is room for it
-pub writes-long : (m : List ℕ) (j : ℕ) (r : Result ℕ ℕ) (l out out₁ : List ℕ) → 4096 ≤ length out → Sent (runs_on 3 own m (letter_to j)) r l out₁ → Writes m j r l out out₁
-writes-long m j r l out out₁ long h = subst (λ b. WritesIf b m j r l out out₁) (sym (le-leb 4096 (length out) long)) h
-
-pub writes_short : (m : List ℕ) (j : ℕ) (out : List ℕ) → length out < 4096 → Writes m j (Err 0) m out out
-writes_short m j out short =
-    subst (λ b. WritesIf b m j (Err 0) m out out) (sym (lt-leb 4096 (length out) short)) (record { said = refl; memory = refl; bytes = refl })

@@ -1,25 +1,38 @@
--- One step of a replica's machine, and what it is told that takes only one.
-use Rattle.std.specs.Prelude.{◌≡◌, ℕ, Bool, true, false, List, [], ◌∷◌, Ok, Err, vec_items, Option, Result}
-use Rattle.std.specs.Option.{option_to_list}
+-- One step of the machine over the cells that a replica owns, and what it is told that takes only one.
+use Rattle.std.specs.Prelude.{◌≡◌, ℕ, Bool, true, false, List, Err, Result}
 use Rattle.ops.specs.Doc.{Command, insert, strike, write_under, add_to, show_text, show_key}
-use Rattle.desks.specs.Run.{Event, opens, said, letter_to, hears, next, Step, shows, refused}
-use Rattle.desks.specs.Entry.{own, ActTold}
-use Rattle.desks.specs.declared.Told.{Told}
-use Rattle.replicas.specs.declared.machine.Replica.{Replica}
+use Rattle.desks.specs.Run.{Event, opens, said, letter_to, hears, next, Act, Step}
+use Rattle.desks.specs.Acts.{posted, Front}
+use Rattle.desks.specs.declared.refusal.Refusal.{Refusal}
+use Rattle.desks.specs.declared.refusal.Refusal.TheVariants.{Unfit}
+use Rattle.replicas.specs.Replica.{command_of}
+use Rattle.replicas.specs.declared.acts.Told.{Told}
+use Rattle.replicas.specs.declared.acts.Told.TheVariants.{Open, Do, ShowText, Read}
 
-pub record Stepped (a : Replica) (ev : Event) (r : Told) (b : Replica) (out out₁ : List ℕ) : Type 0 where
-  pub memory : vec_items b.memory ≡ (own.step (vec_items a.memory) ev).memory
-  pub act : ActTold (own.step (vec_items a.memory) ev).act r (vec_items a.row) (vec_items b.row) out out₁
+-- what it is told, as the machine's event
+abbrev pub event_of : Told → Event
+event_of (Open desk) = opens desk
+event_of (Do deed) = said (command_of deed)
+event_of ShowText = said show_text
+event_of (Read from letter) = hears from letter.now
 
--- a row with a word, or none; or a refusal
-abbrev pub WordShown : Step → Result (Option ℕ) ℕ → List ℕ → Type 0
-WordShown s (Ok w) m₁ = (s.act ≡ shows (option_to_list w)) × (m₁ ≡ s.memory)
-WordShown s (Err k) m₁ = (s.act ≡ refused k) × (m₁ ≡ s.memory)
-
--- one number, where one is shown
-pub record NumberShown (s : Step) (r : ℕ) (m₁ : List ℕ) : Type 0 where
-  pub value : (x : ℕ) → s.act ≡ shows (x ∷ []) → r ≡ x
+pub record Tells (s : Step) (a : Act) (m₁ : List ℕ) : Type 0 where
   pub memory : m₁ ≡ s.memory
+  pub act : s.act ≡ a
+
+-- a letter in the lent bytes, where there is room for 4,096; else nothing is changed
+pub record Posts (s : Step) (r : Result ℕ Refusal) (m₁ out out₁ : List ℕ) : Type 0 where
+  pub tells : Tells s (posted out₁ r) m₁
+  pub front : Front r out out₁
+
+pub record Unsent (r : Result ℕ Refusal) (m m₁ out out₁ : List ℕ) : Type 0 where
+  pub said : r ≡ Err Unfit
+  pub memory : m₁ ≡ m
+  pub bytes : out₁ ≡ out
+
+abbrev pub PostsIf : Bool → Step → Result ℕ Refusal → (m m₁ out out₁ : List ℕ) → Type 0
+PostsIf true s r m m₁ out out₁ = Posts s r m₁ out out₁
+PostsIf false s r m m₁ out out₁ = Unsent r m m₁ out out₁
 
 -- commands of which a machine shows nothing
 unfoldable pub shows_nothing : Command → Bool

@@ -1,10 +1,13 @@
-// A replica: a desk's machine with a memory of its own, and a row of numbers for what it shows.
+// A replica: a desk's machine with a memory of its own.
 //
 // The machine does one act at a time; a replica is told something and lets it go on to the end. What comes of that is the run that the main theorem
 // speaks of (`runs_on`, for the machine `own`), and each method says so.
 #![tactic(auto)]
 
+mod acts;
+mod fault;
 mod machine;
 mod methods;
 
-pub use machine::{Deed, Fault, Key, Replica};
+pub use fault::Fault;
+pub use machine::{Deed, Key, Replica};

@@ -1,17 +1,15 @@
-// The vocabulary: a replica with its rows, and what it can be told to do.
-ghost use Rattle.std.specs.Prelude.{◌≡◌, ◌≤◌, vec_len};
+// The vocabulary: a replica, what it can be told to do, and why there is none.
+ghost use Rattle.std.specs.Prelude.{◌≡◌, vec_len};
 ghost use Rattle.ops.specs.Layout.{memory_size};
 
 #[derive(Drop)]
 pub struct Replica {
     // All that it keeps.
     pub(crate) memory: Vec<u64>,
-    // What it shows.
-    pub(crate) row: Vec<u64>,
-    ghost sized: { (vec_len memory ≡ memory_size) × (8192 ≤ vec_len row) },
+    ghost sized: { vec_len memory ≡ memory_size },
 }
 
-#[derive(Clone, Copy)]
+#[derive(Clone, Copy, PartialEq, Eq, Debug)]
 pub enum Deed {
     Insert { place: u64, sign: u64 },
     Strike { place: u64 },
@@ -24,12 +22,4 @@ pub enum Deed {
 pub struct Key {
     pub word: Option<u64>,
     pub tally: u64,
-}
-
-// Why there is no replica.
-#[derive(Clone, Copy, PartialEq, Eq, Debug)]
-pub enum Fault {
-    NoMemory,
-    // The machine's refusal: 1, there is no desk of that number.
-    Refused(u64),
 }

@@ -1,44 +1,20 @@
 // What a replica does.
-ghost use Rattle.std.specs.Prelude.{◌≡◌, ◌≤◌, true, length, IfOk, nat_lt};
-ghost use Rattle.desks.specs.Run.{said, next};
+ghost use Rattle.std.specs.Prelude.{◌≡◌, ◌≤◌, true, IfOk, nat_lt};
+ghost use Rattle.desks.specs.Run.{said};
 ghost use Rattle.ops.specs.Doc.{pick, show_text, show_key};
 ghost use Rattle.ops.specs.Layout.{version_cell, low};
 ghost use Rattle.ops.specs.Log.{kept};
-ghost use Rattle.desks.specs.Entry.{own, event_of};
+ghost use Rattle.desks.specs.Entry.{own};
 ghost use Rattle.network.specs.Room.{level};
 ghost use Rattle.replicas.specs.Replica.{memory_of, run, command_of, Did, Showed, Writes, Read, Opened};
-ghost use Rattle.replicas.specs.Steps.{is_quiet, Stepped, WordShown, NumberShown};
 
-use crate::machine::{Deed, Fault, Key, Replica};
-use desks::{MEMORY_SIZE, MOST_BYTES, MOST_SHOWN, Told};
+use crate::acts;
+use crate::acts::Told;
+use crate::fault::Fault;
+use crate::machine::{Deed, Key, Replica};
+use desks::{MEMORY_SIZE, MOST_BYTES, Refusal};
 use ops::layout::{CAPACITY, DESKS, LENGTH, VERSION};
 use std::alloc::{AllocError, Global};
-
-// The kinds of what a machine is told.
-const OPEN: u64 = 0;
-
-const INSERT: u64 = 1;
-
-const STRIKE: u64 = 2;
-
-const WRITE: u64 = 3;
-
-const ADD: u64 = 4;
-
-const SHOW_TEXT: u64 = 5;
-
-const SHOW_KEY: u64 = 6;
-
-const SEND: u64 = 7;
-
-const READ: u64 = 8;
-
-const GO_ON: u64 = 9;
-
-// How a letter that is too long is refused, and one for which there is no room.
-const NO_LETTER: u64 = 1;
-
-const NO_PLACE: u64 = 0;
 
 impl Replica {
     // A replica that isn't open yet.
@@ -47,7 +23,6 @@ impl Replica {
     {
         Ok(Replica {
             memory: vec![in heap; 0; MEMORY_SIZE]?,
-            row: vec![in heap; 0; MOST_SHOWN]?,
         })
     }
 
@@ -55,116 +30,49 @@ impl Replica {
     pub fn opened(heap: Global, desk: u64) -> Result<Replica, Fault>
         ensures { Opened desk result }
     {
-        let Ok(mut replica) = Replica::blank(heap) else {
-            return Err(Fault::NoMemory);
-        };
-        match replica.quietly(OPEN, desk, 0, &[]) {
-            Ok(()) => Ok(replica),
-            Err(refusal) => Err(Fault::Refused(refusal)),
-        }
+        let mut replica = Replica::blank(heap)?;
+        acts::tell(replica.memory.as_mut_slice(), Told::Open { desk })?;
+        Ok(replica)
     }
 
-    // One step of its machine; `out` is where a letter goes.
-    fn step(&mut self, kind: u64, a: u64, b: u64, letter: &[u8], out: &mut [u8]) -> Told
-        requires { (kind ≤ 9) × ((length letter.now ≤ 4096) × (4096 ≤ length out.old)) }
-        ensures { Stepped self.old (event_of kind a b letter.now) result self.new out.old out.new }
-    {
-        let row = self.row.as_mut_slice();
-        desks::step(self.memory.as_mut_slice(), kind, a, b, letter, row, out)
-    }
-
-    // Tells the machine something that it does at once, and of which it shows nothing.
-    fn quietly(&mut self, kind: u64, a: u64, b: u64, letter: &[u8]) -> Result<(), u64>
-        requires { (kind ≤ 9) × ((length letter.now ≤ 4096) × (is_quiet (event_of kind a b letter.now) ≡ true)) }
-        ensures { Did (run self.old (event_of kind a b letter.now)) result (memory_of self.new) }
-    {
-        let mut unsent = [0; MOST_BYTES];
-        match self.step(kind, a, b, letter, &mut unsent) {
-            Told::No(refusal) => Err(refusal),
-            _ => Ok(()),
-        }
-    }
-
-    // Does a deed, or refuses it with a number.
-    pub fn does(&mut self, deed: Deed) -> Result<(), u64>
+    // Does a deed, or refuses it.
+    pub fn does(&mut self, deed: Deed) -> Result<(), Refusal>
         ensures { Did (run self.old (said (command_of deed))) result (memory_of self.new) }
     {
-        match deed {
-            Deed::Insert { place, sign } => self.quietly(INSERT, place, sign, &[]),
-            Deed::Strike { place } => self.quietly(STRIKE, place, 0, &[]),
-            Deed::Write { key, word } => self.quietly(WRITE, key, word, &[]),
-            Deed::Add { key, amount } => self.quietly(ADD, key, amount, &[]),
-        }
+        acts::tell(self.memory.as_mut_slice(), Told::Do { deed })
     }
 
     // Shows the text: refused, since no machine knows it yet.
-    pub fn text(&mut self) -> Result<(), u64>
+    pub fn text(&mut self) -> Result<(), Refusal>
         ensures { Did (run self.old (said show_text)) result (memory_of self.new) }
     {
-        self.quietly(SHOW_TEXT, 0, 0, &[])
-    }
-
-    // The word under a key; its tally comes next.
-    fn word(&mut self, key: u64) -> Result<Option<u64>, u64>
-        ensures { WordShown (own.step (memory_of self.old) (said (show_key key))) result (memory_of self.new) }
-    {
-        let mut unsent = [0; MOST_BYTES];
-        match self.step(SHOW_KEY, key, 0, &[], &mut unsent) {
-            Told::No(refusal) => Err(refusal),
-            Told::Shows(n) => {
-                if n == 0 {
-                    Ok(None)
-                } else {
-                    Ok(Some(self.row[0]))
-                }
-            }
-            _ => Ok(None),
-        }
-    }
-
-    // The number that the machine shows when it goes on.
-    fn tally(&mut self) -> u64
-        ensures { NumberShown (own.step (memory_of self.old) next) result (memory_of self.new) }
-    {
-        let mut unsent = [0; MOST_BYTES];
-        let _told = self.step(GO_ON, 0, 0, &[], &mut unsent);
-        self.row[0]
+        acts::tell(self.memory.as_mut_slice(), Told::ShowText)
     }
 
     // Shows a key.
-    pub fn key(&mut self, key: u64) -> Result<Key, u64>
+    pub fn key(&mut self, key: u64) -> Result<Key, Refusal>
         ensures { Showed (run self.old (said (show_key key))) result (memory_of self.new) }
     {
-        let word = match self.word(key) {
-            Ok(word) => word,
-            Err(refusal) => return Err(refusal),
-        };
-        let tally = self.tally();
+        let word = acts::show_key(self.memory.as_mut_slice(), key)?.map(u64::from);
+        let tally = acts::go_on(self.memory.as_mut_slice())?.unwrap_or(0);
         Ok(Key { word, tally })
     }
 
-    // Makes a letter for another desk: so many bytes, in a lent row of 4,096 or more. In a shorter one there is no room: 0 is said, and nothing is done.
-    pub fn letter(&mut self, to: u64, out: &mut [u8]) -> Result<usize, u64>
+    // Makes a letter for another desk: so many bytes, in a lent row of 4,096 or more. A shorter one is refused, and nothing is done.
+    pub fn letter(&mut self, to: u64, out: &mut [u8]) -> Result<usize, Refusal>
         ensures { Writes (memory_of self.old) to result (memory_of self.new) out.old out.new }
     {
-        if out.len() < MOST_BYTES {
-            return Err(NO_PLACE);
-        }
-        match self.step(SEND, to, 0, &[], out) {
-            Told::No(refusal) => Err(refusal),
-            Told::Sends(n) => Ok(n as usize),
-            _ => Ok(0),
-        }
+        acts::send(self.memory.as_mut_slice(), to, out)
     }
 
     // Reads a letter from another desk.
-    pub fn hear(&mut self, from: u64, letter: &[u8]) -> Result<(), u64>
+    pub fn hear(&mut self, from: u64, letter: &[u8]) -> Result<(), Refusal>
         ensures { Read (memory_of self.old) from letter.now result (memory_of self.new) }
     {
         if letter.len() > MOST_BYTES {
-            return Err(NO_LETTER);
+            return Err(Refusal::Malformed);
         }
-        self.quietly(READ, from, 0, letter)
+        acts::tell(self.memory.as_mut_slice(), Told::Read { from, letter })
     }
 
     // How many operations it knows.

@@ -1,37 +1,10 @@
-use Rattle.std.proofs.Common.{refl, arith}
-use Rattle.desks.specs.Entry.{event_of}
-use Rattle.replicas.specs.Steps.{shows_nothing, is_quiet}
-use Rattle.replicas.proofs.Runs.{of_deed}
+use Rattle.std.proofs.Common.{sym}
+use Rattle.ops.specs.Doc.{show_text}
+use Rattle.desks.specs.Run.{said}
+use Rattle.replicas.specs.Replica.{command_of}
+use Rattle.replicas.proofs.Stepping.{lent_tells}
+use Rattle.replicas.proofs.Runs.{did, deed_quiet, text_quiet}
 use Rattle.replicas.proofs.machine.Replica.does.Goals as goal
 
-pub quietly-requires : goal.quietly-requires
-unfolding event_of is_quiet shows_nothing
-quietly-requires c = (omega arith, (omega arith, refl))
-
-pub quietly-requires-in-Strike : goal.quietly-requires-in-Strike
-unfolding event_of is_quiet shows_nothing
-quietly-requires-in-Strike c = (omega arith, (omega arith, refl))
-
-pub quietly-requires-in-Write : goal.quietly-requires-in-Write
-unfolding event_of is_quiet shows_nothing
-quietly-requires-in-Write c = (omega arith, (omega arith, refl))
-
-pub quietly-requires-in-Add : goal.quietly-requires-in-Add
-unfolding event_of is_quiet shows_nothing
-quietly-requires-in-Add c = (omega arith, (omega arith, refl))
-
-pub returns-in-Insert : goal.returns-in-Insert
-unfolding event_of
-returns-in-Insert c = of_deed _ _ _ c.in-Insert.is c.quietly.ensures
-
-pub returns-in-Strike : goal.returns-in-Strike
-unfolding event_of
-returns-in-Strike c = of_deed _ _ _ c.in-Strike.is c.quietly-in-Strike.ensures
-
-pub returns-in-Write : goal.returns-in-Write
-unfolding event_of
-returns-in-Write c = of_deed _ _ _ c.in-Write.is c.quietly-in-Write.ensures
-
-pub returns-in-Add : goal.returns-in-Add
-unfolding event_of
-returns-in-Add c = of_deed _ _ _ c.in-Add.is c.quietly-in-Add.ensures
+pub returns : goal.returns
+returns c = let self = c.args.self.now in did _ _ (said (command_of c.args.deed)) _ (deed_quiet c.args.deed) (lent_tells (said (command_of c.args.deed)) _ (record { long = sym self.memory.ok.0; whole = c.as_mut_slice.ensures.value; kept = c.tell.auto.cells }) c.tell.ensures)

@@ -8,6 +8,6 @@ unfolding kept
 returns c =
     let self = c.args.self.now in
     let long = self.memory.ok.0 in
-    let size = self.sized.0 in
+    let size = self.sized in
     let near : 3 < length self.memory.items = omega arith in
     record { value = c.min.ensures ∙ ap (λ n. min n 8192) (c.index.ensures ∙ get_or_default self.memory.items 3 _ 0 near); bound = let e = c.min.ensures in omega arith }

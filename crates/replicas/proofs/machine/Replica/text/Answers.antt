@@ -1,12 +1,10 @@
-use Rattle.std.proofs.Common.{refl, arith}
-use Rattle.desks.specs.Entry.{event_of}
-use Rattle.replicas.specs.Steps.{shows_nothing, is_quiet}
+use Rattle.std.proofs.Common.{sym}
+use Rattle.ops.specs.Doc.{show_text}
+use Rattle.desks.specs.Run.{said}
+use Rattle.replicas.specs.Replica.{command_of}
+use Rattle.replicas.proofs.Stepping.{lent_tells}
+use Rattle.replicas.proofs.Runs.{did, deed_quiet, text_quiet}
 use Rattle.replicas.proofs.machine.Replica.text.Goals as goal
 
-pub quietly-requires : goal.quietly-requires
-unfolding event_of is_quiet shows_nothing
-quietly-requires c = (omega arith, (omega arith, refl))
-
 pub returns : goal.returns
-unfolding event_of
-returns c = c.quietly.ensures
+returns c = let self = c.args.self.now in did _ _ (said show_text) _ text_quiet (lent_tells (said show_text) _ (record { long = sym self.memory.ok.0; whole = c.as_mut_slice.ensures.value; kept = c.tell.auto.cells }) c.tell.ensures)

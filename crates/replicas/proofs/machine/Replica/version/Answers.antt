@@ -10,6 +10,6 @@ pub returns : goal.returns
 returns c =
     let self = c.args.self.now in
     let long = self.memory.ok.0 in
-    let size = self.sized.0 in
+    let size = self.sized in
     let near : 32 + c.args.desk < length self.memory.items = let l = c.if-desk.false in omega arith in
     ap (λ x. x % 4294967296) (c.index.ensures ∙ get_or_default self.memory.items (32 + c.args.desk) _ 0 near) ∙ sym (entry_is _ _ c.if-desk.false)

@@ -8,6 +8,8 @@ use Rattle.desks.specs.Run.{letter_to, hears, Ran, runs_on, made_well, read_well
 use Rattle.desks.specs.Entry.{own}
 use Rattle.network.specs.Room.{level}
 use Rattle.replicas.specs.declared.machine.Replica.{Replica}
+use Rattle.desks.specs.Refusals.{number_of}
+use Rattle.desks.specs.declared.refusal.Refusal.{Refusal}
 use Rattle.replicas.specs.Replica.{memory_of, Did, Sent, WritesIf, Writes, Reads, Read}
 use Rattle.simulator.specs.Rooms.{memories}
 use Rattle.simulator.specs.Meetings.{writing, reading, bytes_of, Passed, Paired}
@@ -18,10 +20,10 @@ pub counted : (desks : Vec Replica Global) (i : ℕ) → i < vec_len desks → i
 counted desks i h = let e = desks.ok.0 in let f = length-map (vec_items desks) memory_of in omega arith
 
 -- what is promised of a letter and of reading it, where there is room and the letter is short
-pub wrote : (m : List ℕ) (j : ℕ) (r : Result ℕ ℕ) (l out out₁ : List ℕ) → 4096 ≤ length out → Writes m j r l out out₁ → Sent (runs_on 3 own m (letter_to j)) r l out₁
+pub wrote : (m : List ℕ) (j : ℕ) (r : Result ℕ Refusal) (l out out₁ : List ℕ) → 4096 ≤ length out → Writes m j r l out out₁ → Sent (runs_on 3 own m (letter_to j)) r l out₁
 wrote m j r l out out₁ long h = subst (λ b. WritesIf b m j r l out out₁) (le-leb 4096 (length out) long) h
 
-pub was_read : (m : List ℕ) (i : ℕ) (bs : List ℕ) (r : Result (Unit {0}) ℕ) (l : List ℕ) → length bs ≤ 4096 → Read m i bs r l → Did (runs_on 3 own m (hears i bs)) r l
+pub was_read : (m : List ℕ) (i : ℕ) (bs : List ℕ) (r : Result (Unit {0}) Refusal) (l : List ℕ) → length bs ≤ 4096 → Read m i bs r l → Did (runs_on 3 own m (hears i bs)) r l
 was_read m i bs r l short h = subst (λ b. Reads b m i bs r l) (le-leb (length bs) 4096 short) h
 
 pub memory_there : (xs : List Replica) (i : ℕ) (r : Replica) → i < length xs → r ≡ get_or xs i r → memory_of r ≡ get_or (map memory_of xs) i []
@@ -46,7 +48,7 @@ module _ (xs : List Replica) (i j : ℕ) (hi : i < length xs) (hj : j < length x
   changed : map memory_of (set (set xs i l) j h) ≡ set (set ms i (memory_of l)) j (memory_of h)
   changed = map-set memory_of (set xs i l) j h ∙ ap (λ ys. set ys j (memory_of h)) (map-set memory_of xs i l)
 
-  pub passed_ok : (n : ℕ) (mail mail₁ : List ℕ) (x : Result (Unit {0}) ℕ) (bs : List ℕ) (well : Bool) → 4096 ≤ length mail → length mail₁ ≡ length mail → bs ≡ take n mail₁ → well ≡ is_ok x → Writes (memory_of r) j (Ok n) (memory_of l) mail mail₁ →
+  pub passed_ok : (n : ℕ) (mail mail₁ : List ℕ) (x : Result (Unit {0}) Refusal) (bs : List ℕ) (well : Bool) → 4096 ≤ length mail → length mail₁ ≡ length mail → bs ≡ take n mail₁ → well ≡ is_ok x → Writes (memory_of r) j (Ok n) (memory_of l) mail mail₁ →
       Read (memory_of r₂) i bs x (memory_of h) → Passed ms i j well n (map memory_of (set (set xs i l) j h))
   unfolding first_letter
   passed_ok n mail mail₁ x bs well room same eb ew w d =
@@ -63,7 +65,7 @@ module _ (xs : List Replica) (i j : ℕ) (hi : i < length xs) (hj : j < length x
         short = s.short;
       }
 
-  pub passed_no : (k : ℕ) (mail mail₁ : List ℕ) (x : Result (Unit {0}) ℕ) → 4096 ≤ length mail → Writes (memory_of r) j (Err k) (memory_of l) mail mail₁ →
+  pub passed_no : (k : Refusal) (mail mail₁ : List ℕ) (x : Result (Unit {0}) Refusal) → 4096 ≤ length mail → Writes (memory_of r) j (Err k) (memory_of l) mail mail₁ →
       Did (runs_on 3 own (memory_of r₂) (hears i [])) x (memory_of h) → Passed ms i j false 0 (map memory_of (set (set xs i l) j h))
   unfolding first_letter
   passed_no k mail mail₁ x room w d =
@@ -73,7 +75,7 @@ module _ (xs : List Replica) (i j : ℕ) (hi : i < length xs) (hj : j < length x
       (subst (λ c. Did (runs_on 3 own (memory_of r₂) (hears i c)) x (memory_of h)) (sym (ap first_letter s.sent)) d) in
       record {
         after = changed ∙ (λ z. set (set ms i (s.memory z)) j (t.memory z));
-        fair = sym (ap (λ c. c && read_well (reading b i (writing a j))) (made_no (writing a j) k s.ended.0 s.ended.1));
+        fair = sym (ap (λ c. c && read_well (reading b i (writing a j))) (made_no (writing a j) (number_of k) s.ended.0 s.ended.1));
         long = sym (ap (λ c. length (first_letter c)) s.sent);
         short = omega arith;
       }

@@ -20,7 +20,9 @@ use Rattle.replicas.specs.Replica.{memory_of, run, Ended, Did, Sent, Writes, Rea
 use Rattle.simulator.specs.declared.letter.Letter.{Letter}
 use Rattle.simulator.specs.declared.room.Item as play
 use Rattle.simulator.specs.declared.room.Answer.{Answer}
-use Rattle.simulator.specs.declared.room.Answer.TheVariants.{Done, Met, Refused}
+use Rattle.simulator.specs.declared.room.Answer.TheVariants.{Done, Met}
+use Rattle.desks.specs.declared.refusal.Refusal.{Refusal}
+use Rattle.desks.specs.declared.refusal.Refusal.TheVariants.{Malformed}
 use Rattle.simulator.specs.Rooms.{note_of}
 use Rattle.simulator.specs.Meetings as meetings
 use Rattle.simulator.specs.Play.{item_of, end_of, rows_of, Plain, Answers, pairs_in, bytes_in, Counts, Plays, Played, Rightly}
@@ -38,24 +40,24 @@ unfolding RoomsRight
 rightly r h = ∥∥₁_map h (λ t. (t.0, t.1, rooms_right t.0))
 
 -- WHAT CAN BE, and what cannot
-cannot : (r : Room) (it : Item) → can r it ≡ false → Plays r it (Refused 1) r
+cannot : (r : Room) (it : Item) → can r it ≡ false → Plays r it (Err Malformed) r
 cannot r it e =
     let p = moves_cannot r it e in
     record { after = sym (ap (λ (m : Moved). m.after) p); end = sym (ap (λ (m : Moved). m.end) p); showed = sym (ap (λ (m : Moved). m.showed) p); counts = tt }
 
-pub cannot_at : (r : Room) (i : ℕ) (c : Command) → 32 ≤ i → Plays r (at_desk i c) (Refused 1) r
+pub cannot_at : (r : Room) (i : ℕ) (c : Command) → 32 ≤ i → Plays r (at_desk i c) (Err Malformed) r
 unfolding can
 cannot_at r i c h = cannot r (at_desk i c) (le-ltb i 32 h)
 
-pub cannot_come : (r : Room) (k : ℕ) → length r.notes ≤ k → Plays r (comes k) (Refused 1) r
+pub cannot_come : (r : Room) (k : ℕ) → length r.notes ≤ k → Plays r (comes k) (Err Malformed) r
 unfolding can
 cannot_come r k h = cannot r (comes k) (le-ltb k (length r.notes) h)
 
-pub cannot_make : (r : Room) (i j : ℕ) → false ≡ ((ltb i 32 && ltb j 32) && not (eqb i j)) → Plays r (makes i j) (Refused 1) r
+pub cannot_make : (r : Room) (i j : ℕ) → false ≡ ((ltb i 32 && ltb j 32) && not (eqb i j)) → Plays r (makes i j) (Err Malformed) r
 unfolding can
 cannot_make r i j e = cannot r (makes i j) (sym e)
 
-pub cannot_meet : (r : Room) (i j : ℕ) → false ≡ ((ltb i 32 && ltb j 32) && not (eqb i j)) → Plays r (meet i j) (Refused 1) r
+pub cannot_meet : (r : Room) (i j : ℕ) → false ≡ ((ltb i 32 && ltb j 32) && not (eqb i j)) → Plays r (meet i j) (Err Malformed) r
 unfolding can
 cannot_meet r i j e = cannot r (meet i j) (sym e)
 
@@ -70,7 +72,7 @@ module _ (xs : List Replica) (ns : List Note) where
   with_replica i r₁ m e = map-set memory_of xs i r₁ ∙ ap (set ms i) e
 
   -- A COMMAND
-  pub told_at : (i : ℕ) (c : Command) (r r₁ : Replica) (a : Answer) → i < 32 → i < length xs → r ≡ get_or xs i r → Answers (run r (said c)) a (memory_of r₁) →
+  pub told_at : (i : ℕ) (c : Command) (r r₁ : Replica) (a : Result Answer Refusal) → i < 32 → i < length xs → r ≡ get_or xs i r → Answers (run r (said c)) a (memory_of r₁) →
       Plays here (at_desk i c) a (room (map memory_of (set xs i r₁)) ns)
   unfolding can does
   told_at i c r r₁ a near there e h =
@@ -94,12 +96,12 @@ module _ (xs : List Replica) (ns : List Note) where
     unfolding can does
     makes_it = moves-can here (makes i j) (sym two)
 
-    sent_here : (y : Result ℕ ℕ) (out out₁ : List ℕ) → 4096 ≤ length out → Writes (memory_of r) j y (memory_of r₁) out out₁ → Sent x y (memory_of r₁) out₁
+    sent_here : (y : Result ℕ Refusal) (out out₁ : List ℕ) → 4096 ≤ length out → Writes (memory_of r) j y (memory_of r₁) out out₁ → Sent x y (memory_of r₁) out₁
     sent_here y out out₁ long h =
         subst (λ m. Sent (runs_on 3 own m (letter_to j)) y (memory_of r₁) out₁) (memory_there xs i r there e) (wrote (memory_of r) j y (memory_of r₁) out out₁ long h)
 
     pub made_one : (n : ℕ) (out out₁ : List ℕ) (l : Note) → 4096 ≤ length out → l ≡ note i j (take n out₁) → Writes (memory_of r) j (Ok n) (memory_of r₁) out out₁ →
-        Plays here (makes i j) Done (room (map memory_of (set xs i r₁)) (ns ++ l ∷ []))
+        Plays here (makes i j) (Ok Done) (room (map memory_of (set xs i r₁)) (ns ++ l ∷ []))
     unfolding each
     made_one n out out₁ l long el h =
         let s = sent_here (Ok n) out out₁ long h in
@@ -112,7 +114,7 @@ module _ (xs : List Replica) (ns : List Note) where
           counts = tt;
         }
 
-    pub made_none : (k : ℕ) (out out₁ : List ℕ) → 4096 ≤ length out → Writes (memory_of r) j (Err k) (memory_of r₁) out out₁ → Plays here (makes i j) (Refused k) (room (map memory_of (set xs i r₁)) ns)
+    pub made_none : (k : Refusal) (out out₁ : List ℕ) → 4096 ≤ length out → Writes (memory_of r) j (Err k) (memory_of r₁) out out₁ → Plays here (makes i j) (Err k) (room (map memory_of (set xs i r₁)) ns)
     unfolding each
     made_none k out out₁ long h =
         let s = sent_here (Err k) out out₁ long h in
@@ -126,17 +128,17 @@ module _ (xs : List Replica) (ns : List Note) where
         }
 
 -- the letters are kept in a list that may have moved
-pub kept_none : (xs : List Replica) (ls ls₁ : List Letter) (i j k : ℕ) (r r₁ : Replica) (out out₁ : List ℕ) → true ≡ ((ltb i 32 && ltb j 32) && not (eqb i j)) → i < length xs → r ≡ get_or xs i r → 4096 ≤ length out →
-    Writes (memory_of r) j (Err k) (memory_of r₁) out out₁ → ls₁ ≡ ls → Plays (room (map memory_of xs) (map note_of ls)) (makes i j) (Refused k) (room (map memory_of (set xs i r₁)) (map note_of ls₁))
+pub kept_none : (xs : List Replica) (ls ls₁ : List Letter) (i j : ℕ) (k : Refusal) (r r₁ : Replica) (out out₁ : List ℕ) → true ≡ ((ltb i 32 && ltb j 32) && not (eqb i j)) → i < length xs → r ≡ get_or xs i r → 4096 ≤ length out →
+    Writes (memory_of r) j (Err k) (memory_of r₁) out out₁ → ls₁ ≡ ls → Plays (room (map memory_of xs) (map note_of ls)) (makes i j) (Err k) (room (map memory_of (set xs i r₁)) (map note_of ls₁))
 kept_none xs ls ls₁ i j k r r₁ out out₁ two there e long h el =
-    subst (λ l. Plays (room (map memory_of xs) (map note_of ls)) (makes i j) (Refused k) (room (map memory_of (set xs i r₁)) (map note_of l))) (sym el)
+    subst (λ l. Plays (room (map memory_of xs) (map note_of ls)) (makes i j) (Err k) (room (map memory_of (set xs i r₁)) (map note_of l))) (sym el)
     (made_none xs (map note_of ls) i j r r₁ two there e k out out₁ long h)
 
 pub kept_one : (xs : List Replica) (ls ls₁ ls₂ : List Letter) (l : Letter) (i j n : ℕ) (r r₁ : Replica) (out out₁ : List ℕ) → true ≡ ((ltb i 32 && ltb j 32) && not (eqb i j)) → i < length xs → r ≡ get_or xs i r →
     4096 ≤ length out → Writes (memory_of r) j (Ok n) (memory_of r₁) out out₁ → ls₁ ≡ ls → ls₂ ≡ ls₁ ++ l ∷ [] → note_of l ≡ note i j (take n out₁) →
-    Plays (room (map memory_of xs) (map note_of ls)) (makes i j) Done (room (map memory_of (set xs i r₁)) (map note_of ls₂))
+    Plays (room (map memory_of xs) (map note_of ls)) (makes i j) (Ok Done) (room (map memory_of (set xs i r₁)) (map note_of ls₂))
 kept_one xs ls ls₁ ls₂ l i j n r r₁ out out₁ two there e long h el ep en =
-    subst (λ ns. Plays (room (map memory_of xs) (map note_of ls)) (makes i j) Done (room (map memory_of (set xs i r₁)) ns)) (sym (ap (map note_of) (ep ∙ ap (λ y. y ++ l ∷ []) el) ∙ map_push note_of ls l))
+    subst (λ ns. Plays (room (map memory_of xs) (map note_of ls)) (makes i j) (Ok Done) (room (map memory_of (set xs i r₁)) ns)) (sym (ap (map note_of) (ep ∙ ap (λ y. y ++ l ∷ []) el) ∙ map_push note_of ls l))
     (made_one xs (map note_of ls) i j r r₁ two there e n out out₁ (note_of l) long en h)
 
 -- what is left of a row that was lent whole, filled, and cut
@@ -144,15 +146,15 @@ pub cut_row : (n m : ℕ) (first lent back cut : List ℕ) → length first ≡ 
 cut_row n m first lent back cut a b c e = e ∙ ap (take m) (is_back (record { long = a; whole = b; kept = c }))
 
 -- an answer with nothing shown, from how a run ended
-plain_ends : (r : Room) (it : Item) (y : Ran) (x : Result (Unit {0}) ℕ) (a : Answer) → Plain x a → Ended y x → (end_of a ≡ y.end) × (rows_of a ≡ []) × Counts r it a
+plain_ends : (r : Room) (it : Item) (y : Ran) (x : Result (Unit {0}) Refusal) (a : Result Answer Refusal) → Plain x a → Ended y x → (end_of a ≡ y.end) × (rows_of a ≡ []) × Counts r it a
 plain_ends r it y (Ok v) a p e = (ap end_of p ∙ sym e, ap rows_of p, subst (Counts r it) (sym p) tt)
 plain_ends r it y (Err k) a p e = (ap end_of p ∙ sym e.0, ap rows_of p, subst (Counts r it) (sym p) tt)
 
-abbrev answer_of : Result (Unit {0}) ℕ → Answer
-answer_of (Ok v) = Done
-answer_of (Err k) = Refused k
+abbrev answer_of : Result (Unit {0}) Refusal → Result Answer Refusal
+answer_of (Ok v) = Ok Done
+answer_of (Err k) = Err k
 
-answer_plain : (x : Result (Unit {0}) ℕ) → Plain x (answer_of x)
+answer_plain : (x : Result (Unit {0}) Refusal) → Plain x (answer_of x)
 answer_plain (Ok v) = refl
 answer_plain (Err k) = refl
 
@@ -161,7 +163,7 @@ module _ (xs : List Replica) (ls : List Letter) where
   abbrev ns : List Note
   ns = map note_of ls
 
-  pub came_one : (k : ℕ) (l : Letter) (r r₁ : Replica) (x : Result (Unit {0}) ℕ) (a : Answer) (bs : List ℕ) → k < length ls → l ≡ get_or ls k l → l.to < length xs → r ≡ get_or xs l.to r →
+  pub came_one : (k : ℕ) (l : Letter) (r r₁ : Replica) (x : Result (Unit {0}) Refusal) (a : Result Answer Refusal) (bs : List ℕ) → k < length ls → l ≡ get_or ls k l → l.to < length xs → r ≡ get_or xs l.to r →
       bs ≡ vec_items l.bytes → length bs ≤ 4096 → Plain x a → Read (memory_of r) l.from bs x (memory_of r₁) →
       Plays (room (map memory_of xs) ns) (comes k) a (room (map memory_of (set xs l.to r₁)) ns)
   unfolding can does
@@ -185,7 +187,7 @@ module _ (xs : List Replica) (ls : List Letter) where
       }
 
   -- whatever is answered
-  pub came_after : (k : ℕ) (l : Letter) (r r₁ : Replica) (x : Result (Unit {0}) ℕ) (bs : List ℕ) → k < length ls → l ≡ get_or ls k l → l.to < length xs → r ≡ get_or xs l.to r →
+  pub came_after : (k : ℕ) (l : Letter) (r r₁ : Replica) (x : Result (Unit {0}) Refusal) (bs : List ℕ) → k < length ls → l ≡ get_or ls k l → l.to < length xs → r ≡ get_or xs l.to r →
       bs ≡ vec_items l.bytes → length bs ≤ 4096 → Read (memory_of r) l.from bs x (memory_of r₁) →
       room (map memory_of (set xs l.to r₁)) ns ≡ (moves (room (map memory_of xs) ns) (comes k)).after
   came_after k l r r₁ x bs there el near er eb short h = (came_one k l r r₁ x (answer_of x) bs there el near er eb short (answer_plain x) h).after
@@ -202,7 +204,7 @@ module _ (ms ms₁ : List (List ℕ)) (ns : List Note) (i j n size : ℕ) (well 
   pub met_after : room ms₁ ns ≡ (moves (room ms ns) (meet i j)).after
   met_after = ap (λ l. room l ns) m.after ∙ sym (ap (λ (x : Moved). x.after) meets_so)
 
-  met_so : (a : Answer) → Counts (room ms ns) (meet i j) a → rows_of a ≡ [] → end_of a ≡ pick well 0 1 → Plays (room ms ns) (meet i j) a (room ms₁ ns)
+  met_so : (a : Result Answer Refusal) → Counts (room ms ns) (meet i j) a → rows_of a ≡ [] → end_of a ≡ pick well 0 1 → Plays (room ms ns) (meet i j) a (room ms₁ ns)
   met_so a n e f =
       record {
         after = met_after;
@@ -211,15 +213,15 @@ module _ (ms ms₁ : List (List ℕ)) (ns : List Note) (i j n size : ℕ) (well 
         counts = n;
       }
 
-  pub met_well : well ≡ true → Plays (room ms ns) (meet i j) (Met n size) (room ms₁ ns)
+  pub met_well : well ≡ true → Plays (room ms ns) (meet i j) (Ok (Met n size)) (room ms₁ ns)
   unfolding pairs_in bytes_in
-  met_well e = met_so (Met n size) (m.many, m.long) refl (ap (λ b. pick b 0 1) (sym e))
+  met_well e = met_so (Ok (Met n size)) (m.many, m.long) refl (ap (λ b. pick b 0 1) (sym e))
 
-  pub met_ill : well ≡ false → Plays (room ms ns) (meet i j) (Refused 1) (room ms₁ ns)
-  met_ill e = met_so (Refused 1) tt refl (ap (λ b. pick b 0 1) (sym e))
+  pub met_ill : well ≡ false → Plays (room ms ns) (meet i j) (Err Malformed) (room ms₁ ns)
+  met_ill e = met_so (Err Malformed) tt refl (ap (λ b. pick b 0 1) (sym e))
 
 -- WHERE MEMORY IS WANTING
-pub none_played : (r r₁ : Room) (it : Item) (x : Result Answer AllocError) → is_err x ≡ true → r₁ ≡ r → Played r it x r₁
+pub none_played : (r r₁ : Room) (it : Item) (x : Result (Result Answer Refusal) AllocError) → is_err x ≡ true → r₁ ≡ r → Played r it x r₁
 none_played r r₁ it (Ok a) h e = absurd (both_ways false refl h)
 none_played r r₁ it (Err z) h e = e
 
@@ -260,8 +262,8 @@ pub reached_first : (r : Room) → r ≡ first_room → ∥ ((is : List Item) ×
 reached_first r e = ∣ ([], first_tale ∙ sym e) ∣₁
 
 -- AN ITEM, by what the match on it told
-pub of_item : (r r₁ : Room) (a : Answer) {it it₁ : play.Item} → it ≡ it₁ → Plays r (item_of it₁) a r₁ → Plays r (item_of it) a r₁
+pub of_item : (r r₁ : Room) (a : Result Answer Refusal) {it it₁ : play.Item} → it ≡ it₁ → Plays r (item_of it₁) a r₁ → Plays r (item_of it) a r₁
 of_item r r₁ a e h = subst (λ x. Plays r (item_of x) a r₁) (sym e) h
 
-pub of_made : (r r₁ : Room) (x : Result Answer AllocError) {it it₁ : play.Item} → it ≡ it₁ → Played r (item_of it₁) x r₁ → Played r (item_of it) x r₁
+pub of_made : (r r₁ : Room) (x : Result (Result Answer Refusal) AllocError) {it it₁ : play.Item} → it ≡ it₁ → Played r (item_of it₁) x r₁ → Played r (item_of it) x r₁
 of_made r r₁ x e h = subst (λ y. Played r (item_of y) x r₁) (sym e) h

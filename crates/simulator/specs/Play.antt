@@ -16,7 +16,9 @@ use Rattle.simulator.specs.declared.room.Command.TheVariants.{Do, ShowText, Show
 use Rattle.simulator.specs.declared.room.Item.{Item}
 use Rattle.simulator.specs.declared.room.Item.TheVariants.{At, Makes, Comes, Meets}
 use Rattle.simulator.specs.declared.room.Answer.{Answer}
-use Rattle.simulator.specs.declared.room.Answer.TheVariants.{Done, Key, Met, Refused}
+use Rattle.simulator.specs.declared.room.Answer.TheVariants.{Done, Key, Met}
+use Rattle.desks.specs.Refusals.{number_of}
+use Rattle.desks.specs.declared.refusal.Refusal.{Refusal}
 
 abbrev pub view : Room → net.Room
 view r = room_of r.desks r.letters
@@ -33,22 +35,20 @@ item_of (Comes letter) = run.comes letter
 item_of (Meets one other) = run.meet one other
 
 -- 0 for what was done, or the number of the refusal
-abbrev pub end_of : Answer → ℕ
-end_of Done = 0
-end_of (Key k) = 0
-end_of (Met pairs bytes) = 0
-end_of (Refused k) = k
+abbrev pub end_of : Result Answer Refusal → ℕ
+end_of (Ok a) = 0
+end_of (Err k) = number_of k
 
-abbrev pub rows_of : Answer → List (List ℕ)
-rows_of Done = []
-rows_of (Key k) = option_to_list k.word ∷ (k.tally ∷ []) ∷ []
-rows_of (Met pairs bytes) = []
-rows_of (Refused k) = []
+abbrev pub rows_of : Result Answer Refusal → List (List ℕ)
+rows_of (Ok Done) = []
+rows_of (Ok (Key k)) = option_to_list k.word ∷ (k.tally ∷ []) ∷ []
+rows_of (Ok (Met pairs bytes)) = []
+rows_of (Err k) = []
 
 -- an answer with nothing shown
-abbrev pub Plain : Result (Unit {0}) ℕ → Answer → Type 0
-Plain (Ok v) a = a ≡ Done
-Plain (Err k) a = a ≡ Refused k
+abbrev pub Plain : Result (Unit {0}) Refusal → Result Answer Refusal → Type 0
+Plain (Ok v) a = a ≡ Ok Done
+Plain (Err k) a = a ≡ Err k
 
 -- how many pairs of letters a meeting takes
 unfoldable pub pairs_in : net.Room → run.Item → ℕ
@@ -64,28 +64,28 @@ bytes_in r (run.makes i j) = 0
 bytes_in r (run.comes k) = 0
 bytes_in r (run.meet i j) = meeting_bytes i j (net.memory_at r i) (net.memory_at r j)
 
-abbrev pub Counts : net.Room → run.Item → Answer → Type 0
-Counts r it Done = Unit {0}
-Counts r it (Key k) = Unit {0}
-Counts r it (Met pairs bytes) = (pairs ≡ pairs_in r it) × (bytes ≡ bytes_in r it)
-Counts r it (Refused k) = Unit {0}
+abbrev pub Counts : net.Room → run.Item → Result Answer Refusal → Type 0
+Counts r it (Ok Done) = Unit {0}
+Counts r it (Ok (Key k)) = Unit {0}
+Counts r it (Ok (Met pairs bytes)) = (pairs ≡ pairs_in r it) × (bytes ≡ bytes_in r it)
+Counts r it (Err k) = Unit {0}
 
 -- a replica's run, as an answer: no meeting
-pub record Answers (x : run.Ran) (a : Answer) (m : List ℕ) : Type 0 where
+pub record Answers (x : run.Ran) (a : Result Answer Refusal) (m : List ℕ) : Type 0 where
   pub memory : m ≡ x.memory
   pub end : end_of a ≡ x.end
   pub showed : rows_of a ≡ x.showed
   pub counts : (r : net.Room) (it : run.Item) → Counts r it a
 
 -- one item, exactly
-pub record Plays (r : net.Room) (it : run.Item) (a : Answer) (r₁ : net.Room) : Type 0 where
+pub record Plays (r : net.Room) (it : run.Item) (a : Result Answer Refusal) (r₁ : net.Room) : Type 0 where
   pub after : r₁ ≡ (moves r it).after
   pub end : end_of a ≡ (moves r it).end
   pub showed : rows_of a ≡ (moves r it).showed
   pub counts : Counts r it a
 
 -- where memory suffices; else nothing is changed
-abbrev pub Played : net.Room → run.Item → Result Answer AllocError → net.Room → Type 0
+abbrev pub Played : net.Room → run.Item → Result (Result Answer Refusal) AllocError → net.Room → Type 0
 Played r it (Ok a) r₁ = Plays r it a r₁
 Played r it (Err e) r₁ = r₁ ≡ r
 

@@ -11,7 +11,7 @@ ghost use Rattle.simulator.specs.Looks.{Found};
 use crate::letter::Letter;
 use crate::room::Room;
 
-const DESKS: u64 = 32;
+const DESKS: u64 = ops::layout::DESKS as u64;
 
 impl Room {
     // How many operations a desk knows.

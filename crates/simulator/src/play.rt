@@ -8,14 +8,11 @@ ghost use Rattle.simulator.specs.Play.{view, said_by, item_of, Plain, Answers, P
 use crate::letter::Letter;
 use crate::meetings;
 use crate::room::{Answer, Command, Item, Room};
-use desks::MOST_BYTES;
+use desks::{MOST_BYTES, Refusal};
 use replicas::Replica;
 use std::alloc::{AllocError, Global};
 
-// How what cannot be is refused.
-const IMPOSSIBLE: u64 = 1;
-
-const DESKS: u64 = 32;
+const DESKS: u64 = ops::layout::DESKS as u64;
 
 // Whether these are two different desks.
 fn are_two(one: u64, other: u64) -> bool
@@ -31,26 +28,20 @@ fn are_two(one: u64, other: u64) -> bool
 }
 
 // An answer with nothing shown.
-fn plain(res: Result<(), u64>) -> Answer
-    ensures { Plain res result }
+fn plain(outcome: Result<(), Refusal>) -> Result<Answer, Refusal>
+    ensures { Plain outcome result }
 {
-    match res {
-        Ok(()) => Answer::Done,
-        Err(refusal) => Answer::Refused(refusal),
-    }
+    outcome.map(|()| Answer::Done)
 }
 
 // What a replica answers a command.
-fn told(replica: &mut Replica, command: Command) -> Answer
+fn told(replica: &mut Replica, command: Command) -> Result<Answer, Refusal>
     ensures { Answers (run replica.old (said (said_by command))) result (memory_of replica.new) }
 {
     match command {
         Command::Do(deed) => plain(replica.does(deed)),
         Command::ShowText => plain(replica.text()),
-        Command::ShowKey(key) => match replica.key(key) {
-            Ok(shown) => Answer::Key(shown),
-            Err(refusal) => Answer::Refused(refusal),
-        },
+        Command::ShowKey(key) => replica.key(key).map(Answer::Key),
     }
 }
 
@@ -71,64 +62,64 @@ impl Room {
     }
 
     // A command at a desk.
-    fn tell(&mut self, desk: u64, command: Command) -> Answer
+    fn tell(&mut self, desk: u64, command: Command) -> Result<Answer, Refusal>
         ensures { Plays (view self.old) (at_desk desk (said_by command)) result (view self.new) }
     {
         if desk >= DESKS {
-            return Answer::Refused(IMPOSSIBLE);
+            return Err(Refusal::Malformed);
         }
         told(&mut self.desks[desk as usize], command)
     }
 
     // A desk makes a letter for another, which is kept. Room for it is found first, so that nothing is changed where there is none.
-    fn make(&mut self, heap: Global, from: u64, to: u64) -> Result<Answer, AllocError>
+    fn make(&mut self, heap: Global, from: u64, to: u64) -> Result<Result<Answer, Refusal>, AllocError>
         ensures { Played (view self.old) (makes from to) result (view self.new) }
     {
         if !are_two(from, to) {
-            return Ok(Answer::Refused(IMPOSSIBLE));
+            return Ok(Err(Refusal::Malformed));
         }
         let mut bytes = vec![in heap; 0; MOST_BYTES]?;
         self.letters.reserve(1)?;
         let size = match self.desks[from as usize].letter(to, bytes.as_mut_slice()) {
             Ok(size) => size,
-            Err(refusal) => return Ok(Answer::Refused(refusal)),
+            Err(refusal) => return Ok(Err(refusal)),
         };
         bytes.truncate(size);
         self.letters.push_reserved(Letter { from, to, bytes });
-        Ok(Answer::Done)
+        Ok(Ok(Answer::Done))
     }
 
     // A letter comes to the desk that it is for. It stays, and may come again.
-    fn deliver(&mut self, letter: u64) -> Answer
+    fn deliver(&mut self, letter: u64) -> Result<Answer, Refusal>
         ensures { Plays (view self.old) (comes letter) result (view self.new) }
     {
         if letter >= self.letters.len() as u64 {
-            return Answer::Refused(IMPOSSIBLE);
+            return Err(Refusal::Malformed);
         }
         let letter = &self.letters[letter as usize];
         plain(self.desks[letter.to as usize].hear(letter.from, letter.bytes.as_slice()))
     }
 
     // Two desks meet.
-    fn meet(&mut self, one: u64, other: u64) -> Answer
+    fn meet(&mut self, one: u64, other: u64) -> Result<Answer, Refusal>
         ensures { Plays (view self.old) (meets one other) result (view self.new) }
     {
         if !are_two(one, other) {
-            return Answer::Refused(IMPOSSIBLE);
+            return Err(Refusal::Malformed);
         }
         let meeting = meetings::meet(&mut self.desks, one as usize, other as usize);
         if meeting.fair {
-            Answer::Met {
+            Ok(Answer::Met {
                 pairs: meeting.pairs,
                 bytes: meeting.bytes,
-            }
+            })
         } else {
-            Answer::Refused(IMPOSSIBLE)
+            Err(Refusal::Malformed)
         }
     }
 
-    // Plays one item. What cannot be is refused, with 1 or with the machine's own number; and where memory is wanting, nothing is changed.
-    pub fn play(&mut self, heap: Global, item: Item) -> Result<Answer, AllocError>
+    // Plays one item. What cannot be is refused as malformed, or as the machine does; and where memory is wanting, nothing is changed.
+    pub fn play(&mut self, heap: Global, item: Item) -> Result<Result<Answer, Refusal>, AllocError>
         ensures does { Played (view self.old) (item_of item) result (view self.new) }
         ensures right { Rightly (view self.new) }
     {

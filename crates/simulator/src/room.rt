@@ -15,14 +15,14 @@ pub struct Room {
 }
 
 // What somebody asks of a desk.
-#[derive(Clone, Copy)]
+#[derive(Clone, Copy, PartialEq, Eq, Debug)]
 pub enum Command {
     Do(Deed),
     ShowText,
     ShowKey(u64),
 }
 
-#[derive(Clone, Copy)]
+#[derive(Clone, Copy, PartialEq, Eq, Debug)]
 pub enum Item {
     At { desk: u64, command: Command },
     // One desk makes a letter for another.
@@ -33,11 +33,10 @@ pub enum Item {
     Meets { one: u64, other: u64 },
 }
 
-#[derive(Clone, Copy)]
+#[derive(Clone, Copy, PartialEq, Eq, Debug)]
 pub enum Answer {
     Done,
     Key(Key),
     // So many pairs of letters, of so many bytes in all.
     Met { pairs: u64, bytes: u64 },
-    Refused(u64),
 }

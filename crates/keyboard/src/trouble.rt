@@ -1,18 +1,17 @@
 // Why a line is not obeyed.
 use commands::Fault;
+use desks::Refusal;
 use std::alloc::AllocError;
 use std::{fmt, io};
 
 #[derive(Drop)]
 pub enum Trouble {
-    // The machine says no, with a number.
-    Refused(u64),
+    // The machine says no.
+    Refused(Refusal),
     // The line is no command.
     Wrong(Fault),
     CannotRead(io::Error),
     CannotWrite(io::Error),
-    // What the machine showed is no answer to what it was told, or does not end.
-    NoAnswer,
     NoMemory,
 }
 
@@ -23,7 +22,6 @@ impl fmt::Display for Trouble {
             Trouble::Wrong(fault) => write!(f, "{fault}"),
             Trouble::CannotRead(e) => write!(f, "cannot read the file ({e})"),
             Trouble::CannotWrite(e) => write!(f, "cannot write the file ({e})"),
-            Trouble::NoAnswer => f.write_str("the machine gives no answer"),
             Trouble::NoMemory => f.write_str("out of memory"),
         }
     }
@@ -38,5 +36,11 @@ impl From<AllocError> for Trouble {
 impl From<Fault> for Trouble {
     fn from(fault: Fault) -> Trouble {
         Trouble::Wrong(fault)
+    }
+}
+
+impl From<Refusal> for Trouble {
+    fn from(refusal: Refusal) -> Trouble {
+        Trouble::Refused(refusal)
     }
 }

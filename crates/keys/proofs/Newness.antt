@@ -1,10 +1,9 @@
 -- The newest word under a key, kept while a log is gone through, is the first of those in the paper's order.
-use Rattle.std.proofs.Common.{◌≡◌, ℕ, ◌+◌, Bool, true, false, List, [], ◌∷◌, ◌++◌, sym, refl, ap, ◌∙◌, append-nil, arith}
+use Rattle.std.proofs.Common.{◌≡◌, ℕ, Bool, true, false, List, [], ◌∷◌, ◌++◌, sym, refl, ap, ◌∙◌, append-nil, arith}
 use Rattle.std.proofs.lemmas.Bool.Decides.{nat_tests}
 use Rattle.ops.specs.Doc as doc
 use Rattle.ops.specs.Doc.{pick, those, word_at, id_before, put_op, newest_first, first_word, is_under}
-use Rattle.ops.specs.Log.{op_at, firsts}
-use Rattle.ops.proofs.Scans.{those_more, firsts_more}
+use Rattle.ops.proofs.Scans.{those_more}
 use Rattle.keys.specs.Newest.{newer, newer_under}
 
 -- ids are in a line
@@ -71,9 +70,9 @@ word_at_newest xs k = go (newest_first (those (λ o. is_under k o.kind) xs))
     go [] = unfold head_of in refl
     go (o ∷ os) = unfold head_of first_word in refl
 
-pub newest_none : (m : List ℕ) (k : ℕ) → newest_under k (firsts 0 m) ≡ []
-unfolding newest_under firsts those newest_first head_of
-newest_none m k = refl
+pub newest_none : (k : ℕ) → [] ≡ newest_under k []
+unfolding newest_under those newest_first head_of
+newest_none k = refl
 
-pub newest_on : (m : List ℕ) (k : ℕ) (o : doc.Op) → o ≡ op_at m k → (key : ℕ) (l : List doc.Op) → l ≡ newest_under key (firsts k m) → newer_under key l o ≡ newest_under key (firsts (k + 1) m)
-newest_on m k o e key l f = rw (firsts_more k m, newest_under_more, f, e)
+pub newest_next : (key : ℕ) (os : List doc.Op) (o : doc.Op) (l n : List doc.Op) → l ≡ newest_under key os → n ≡ newer_under key l o → n ≡ newest_under key (os ++ o ∷ [])
+newest_next key os o l n e f = rw (newest_under_more key os o, f, e)

@@ -4,7 +4,7 @@
 // (an operation-based counter). Both are functions of the log as a set of operations, so the order in which they were heard of does not matter.
 #![tactic(auto)]
 
-ghost use Rattle.std.specs.Prelude.{◌≡◌};
+ghost use Rattle.std.specs.Prelude.{◌≡◌, ◌<◌};
 ghost use Rattle.std.specs.Option.{option_to_list};
 ghost use Rattle.ops.specs.Doc.{count_of, word_at, count_at};
 ghost use Rattle.ops.specs.Log.{ops_of};
@@ -18,7 +18,8 @@ pub mod found;
 
 // What a kind of operation adds to a key's tally.
 fn added_to(kind: Kind, key: u32) -> u32
-    ensures { result ≡ count_of key (kind_of kind) }
+    ensures value { result ≡ count_of key (kind_of kind) }
+    ensures small { result < 4294967296 }
 {
     match kind {
         Kind::Add { key: at, amount } => { if at == key { amount } else { 0 } }
@@ -30,13 +31,10 @@ fn added_to(kind: Kind, key: u32) -> u32
 pub fn tally(memory: &Memory, key: u32) -> u64
     ensures { result ≡ count_at (ops_of (held memory.now)) key }
 {
-    let mut sum = 0;
-    let mut k = 0;
-    while let Some(op) = memory.operation(k) {
-        sum += u64::from(added_to(op.kind, key));
-        k += 1;
-    }
-    sum
+    memory
+        .operations()
+        .map(|op| u64::from(added_to(op.kind, key)))
+        .sum()
 }
 
 // The newest word so far, after one more operation.
@@ -49,29 +47,16 @@ fn newer_word(best: Option<Found>, op: Op, key: u32) -> Option<Found>
     if at != key {
         return best;
     }
-    let here = Some(Found { id: op.id, word });
-    let Some(found) = best else {
-        return here;
-    };
-    if found.id.is_newer_than(op.id) {
-        best
-    } else {
-        here
-    }
+    best.filter(|found| found.id.is_newer_than(op.id))
+        .or(Some(Found { id: op.id, word }))
 }
 
 // The newest word under a key, if any was written.
 pub fn word_under(memory: &Memory, key: u32) -> Option<u32>
     ensures { option_to_list result ≡ word_at (ops_of (held memory.now)) key }
 {
-    let mut best = None;
-    let mut k = 0;
-    while let Some(op) = memory.operation(k) {
-        best = newer_word(best, op, key);
-        k += 1;
-    }
-    match best {
-        Some(found) => Some(found.word),
-        None => None,
-    }
+    memory
+        .operations()
+        .fold(None, |best, op| newer_word(best, op, key))
+        .map(|found| found.word)
 }

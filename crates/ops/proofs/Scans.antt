@@ -1,5 +1,8 @@
 -- A log read from its beginning, one operation further: what the paper's functions on lists make of one more at the end.
-use Rattle.std.proofs.Common.{◌≡◌, ℕ, zero, suc, ◌+◌, ◌<◌, ◌≤◌, Bool, true, false, List, [], ◌∷◌, ◌++◌, length, refl, ap, ◌∙◌, add-one, arith, length-append}
+use Rattle.std.proofs.Common.{◌≡◌, ℕ, zero, suc, ◌+◌, ◌<◌, ◌≤◌, Bool, true, false, List, [], ◌∷◌, ◌++◌, length, drop, inl, inr, sym, refl, ap, ◌∙◌, add-one, arith, length-append, drop_at}
+use Rattle.std.proofs.lemmas.Bool.{cases_lt}
+use Rattle.std.proofs.lemmas.List.{drop_all, drop-append-le}
+use Rattle.ops.specs.Doc as doc
 use Rattle.ops.specs.Doc.{pick, those, added_up}
 use Rattle.ops.specs.Log.{op_at, firsts, kept, ops_of}
 
@@ -37,3 +40,24 @@ length-firsts (suc k) m = let ih = length-firsts k m in length-append (firsts k 
 pub kept_few : (m : List ℕ) → kept m ≤ 8192
 unfolding kept
 kept_few m = omega arith
+
+-- what is left of a log from a place on
+drop-firsts : (n k : ℕ) (m : List ℕ) → k < n → drop k (firsts n m) ≡ op_at m k ∷ drop (k + 1) (firsts n m)
+unfolding firsts
+drop-firsts zero k m h = absurd (omega arith)
+drop-firsts (suc n) k m h =
+    let l = length-firsts n m in
+    elim (cases_lt k n) [
+      | inl b ↦ drop-append-le k (firsts n m) (op_at m n ∷ []) (omega arith) ∙ ap (λ os. os ++ op_at m n ∷ []) (drop-firsts n k m b) ∙ ap (λ os. op_at m k ∷ os) (sym (drop-append-le (k + 1) (firsts n m) (op_at m n ∷ []) (omega arith)))
+      | inr b ↦
+          let e : k ≡ n = omega arith in
+          rw e (drop_at (firsts n m) (op_at m n ∷ []) n l ∙ ap (λ os. op_at m n ∷ os) (sym (drop_all (n + 1) (firsts n m ++ op_at m n ∷ []) (simp length-append (omega arith)))))
+    ]
+
+pub left_more : (m : List ℕ) (k : ℕ) (o : doc.Op) → k < kept m → o ≡ op_at m k → drop k (ops_of m) ≡ o ∷ drop (k + 1) (ops_of m)
+unfolding ops_of
+left_more m k o h e = drop-firsts (kept m) k m h ∙ ap (λ p. p ∷ drop (k + 1) (ops_of m)) (sym e)
+
+pub left_none : (m : List ℕ) (k : ℕ) → kept m ≤ k → drop k (ops_of m) ≡ []
+unfolding ops_of
+left_none m k h = drop_all k (firsts (kept m) m) (omega (arith, length-firsts (kept m) m))

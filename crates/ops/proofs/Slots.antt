@@ -1,11 +1,19 @@
 -- An operation's six cells: what is written there, and the operation that is read again.
-use Rattle.std.proofs.Common.{◌≡◌, ℕ, suc, ◌+◌, ◌%◌, ◌<◌, ◌≤◌, max, true, ltb, List, [], ◌∷◌, length, get_or, set, sym, refl, ap, ◌∙◌, subst, add-one, arith, le-ltb, lt-ltb, ne_eqb}
+use Rattle.std.proofs.Common.{◌≡◌, ℕ, ◌+◌, ◌-◌, ◌%◌, ◌<◌, ◌≤◌, min, max, true, ltb, List, ◌∷◌, length, set, take, drop, append_assoc, sym, refl, ap, ◌∙◌, add-one, arith, le-ltb, lt-ltb, ne_eqb}
 use lib.Seq.{sets}
+use borrow.Rule.Slice.PartMut.{put_mid}
+use Rattle.std.proofs.lemmas.Slice.{put_mid-paste}
+use Rattle.std.proofs.lemmas.List.Edits.{paste_all, sets-eq}
+use Rattle.std.specs.Prelude.{Result, Ok, Err}
+use Rattle.std.specs.Result.{result_unwrap_or}
 use Rattle.ops.specs.Doc as doc
 use Rattle.ops.specs.Doc.{pick, id, put_in, struck, under, added}
 use Rattle.ops.specs.declared.types.Op.{Op}
 use Rattle.ops.specs.declared.types.Kind.{Kind}
-use Rattle.ops.specs.Values.{desk_of, kind_of, op_of}
+use Rattle.ops.specs.declared.types.Tag.{Tag}
+use Rattle.ops.specs.declared.types.Tag.TheVariants.{Insert, Delete, Write, Add}
+use Rattle.ops.specs.declared.types.UnknownTag.{UnknownTag}
+use Rattle.ops.specs.Values.{desk_of, kind_of, tag_of, ReadsTag, op_of}
 use Rattle.ops.specs.Layout.{version_cell, made_cell, slot, low}
 use Rattle.ops.specs.Log.{kind_from, part, op_at, row_of, cells_of, kept, with_op, appended, highest_up_to}
 
@@ -24,6 +32,17 @@ kind_2 t x y z h = rw h
 pub kind_3 : (t x y z : ℕ) → 2 < t → kind_from t x y z ≡ added x y
 unfolding kind_from
 kind_3 t x y z h = simp (ne_eqb t 0 (omega arith), ne_eqb t 1 (omega arith), ne_eqb t 2 (omega arith))
+
+-- a tag that is read, where an unknown one is an Add's
+tag_small : (t : Tag) → tag_of t ≤ 3
+tag_small Insert = omega arith
+tag_small Delete = omega arith
+tag_small Write = omega arith
+tag_small Add = omega arith
+
+pub tag_read : (n : ℕ) (r : Result Tag UnknownTag) (t : Tag) → ReadsTag n r → t ≡ result_unwrap_or r Add → min n 3 ≡ tag_of t
+tag_read n (Ok u) t h e = omega (arith, tag_small u, ap tag_of e)
+tag_read n (Err u) t h e = omega (arith, ap tag_of e)
 
 pub op_is : (m : List ℕ) (k n w t x y z : ℕ) (kd : doc.Kind) → n ≡ part m k 0 → w ≡ part m k 1 → t ≡ part m k 2 → x ≡ part m k 3 → y ≡ part m k 4 → z ≡ part m k 5 →
     kind_from t x y z ≡ kd → ◌≡◌ {A = doc.Op} (record { name = id n (w % 32); kind = kd }) (op_at m k)
@@ -45,29 +64,12 @@ length_cells o = go o.kind
 pub cells_by : (o : Op) (kd : Kind) (row : List ℕ) → o.kind ≡ kd → row ≡ o.id.n ∷ desk_of o.id.desk ∷ row_of (kind_of kd) → row ≡ cells_of (op_of o)
 cells_by o kd row e f = f ∙ ap (λ k. o.id.n ∷ desk_of o.id.desk ∷ row_of (kind_of k)) (sym e)
 
--- six stores in a row
-six_stores : (row m : List ℕ) (p : ℕ) → length row ≡ 6 →
-    set (set (set (set (set (set m p (get_or row 0 0)) (p + 1) (get_or row 1 0)) (p + 2) (get_or row 2 0)) (p + 3) (get_or row 3 0)) (p + 4) (get_or row 4 0)) (p + 5) (get_or row 5 0) ≡ sets m p row
-six_stores [] m p h = absurd (omega arith)
-six_stores (a ∷ []) m p h = absurd (omega arith)
-six_stores (a ∷ b ∷ []) m p h = absurd (omega arith)
-six_stores (a ∷ b ∷ c ∷ []) m p h = absurd (omega arith)
-six_stores (a ∷ b ∷ c ∷ d ∷ []) m p h = absurd (omega arith)
-six_stores (a ∷ b ∷ c ∷ d ∷ e ∷ []) m p h = absurd (omega arith)
-six_stores (a ∷ b ∷ c ∷ d ∷ e ∷ f ∷ g ∷ gs) m p h = absurd (omega arith)
-six_stores (a ∷ b ∷ c ∷ d ∷ e ∷ f ∷ []) m p h =
-    let e₁ : p + 1 ≡ suc p = omega arith in
-    let e₂ : p + 2 ≡ suc (suc p) = omega arith in
-    let e₃ : p + 3 ≡ suc (suc (suc p)) = omega arith in
-    let e₄ : p + 4 ≡ suc (suc (suc (suc p))) = omega arith in
-    let e₅ : p + 5 ≡ suc (suc (suc (suc (suc p)))) = omega arith in
-    λ i. set (set (set (set (set (set m p a) (e₁ i) b) (e₂ i) c) (e₃ i) d) (e₄ i) e) (e₅ i) f
-
-pub stores_are : (row vs m : List ℕ) (p : ℕ) → row ≡ vs → length vs ≡ 6 →
-    set (set (set (set (set (set m p (get_or row 0 0)) (p + 1) (get_or row 1 0)) (p + 2) (get_or row 2 0)) (p + 3) (get_or row 3 0)) (p + 4) (get_or row 4 0)) (p + 5) (get_or row 5 0) ≡ sets m p vs
-stores_are row vs m p e h =
-    subst (λ r. set (set (set (set (set (set m p (get_or r 0 0)) (p + 1) (get_or r 1 0)) (p + 2) (get_or r 2 0)) (p + 3) (get_or r 3 0)) (p + 4) (get_or r 4 0)) (p + 5) (get_or r 5 0) ≡ sets m p vs) (sym e)
-    (six_stores vs m p h)
+-- an operation's cells, copied into a row of them
+pub copied_cells : (m now row vs : List ℕ) (p e : ℕ) → now ≡ row → row ≡ vs → length vs ≡ 6 → e ≡ p + 6 → e ≤ length m → put_mid p (e - p) m now ≡ sets m p vs
+copied_cells m now row vs p e f g h k l =
+    let n : length vs ≡ e - p = omega arith in
+    put_mid-paste p (e - p) m now vs (length vs) (f ∙ g) n refl ∙ paste_all m p vs (length vs) refl
+    ∙ sym (append_assoc (take p m) vs (drop (p + length vs) m)) ∙ sym (sets-eq vs m p (omega arith))
 
 -- one more desk of the version vector
 pub highest_more : (m : List ℕ) (d h v r : ℕ) → h ≡ highest_up_to d m → v ≡ low m (version_cell d) → r ≡ max h v → r ≡ highest_up_to (d + 1) m

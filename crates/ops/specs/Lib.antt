@@ -3,3 +3,4 @@ pub mod Version
 pub mod Layout
 pub mod Values
 pub mod Log
+pub mod Operations

@@ -8,6 +8,8 @@
 pub mod layout;
 mod log;
 mod names;
+mod operations;
 mod types;
 
-pub use types::{Desk, Kind, Memory, Op, OpId};
+pub use operations::Operations;
+pub use types::{Desk, Full, Kind, Memory, Op, OpId, Tag, UnknownTag};

@@ -1,5 +1,5 @@
 // The log in a desk's memory, its version vector, and its counts.
-ghost use Rattle.std.specs.Prelude.{◌≡◌, ◌+◌, ◌<◌, ◌≤◌, length, nat_lt};
+ghost use Rattle.std.specs.Prelude.{◌≡◌, ◌+◌, ◌<◌, ◌≤◌, ◌↔◌, IsOk, length};
 ghost use Rattle.std.proofs.lemmas.List.Edits.{sets};
 ghost use Rattle.std.specs.Option.{SomeIff, option_map};
 ghost use Rattle.ops.specs.Layout.{memory_size, version_cell, made_cell, slot, low};
@@ -7,7 +7,7 @@ ghost use Rattle.ops.specs.Log.{kept, part, op_at, cells_of, appended, highest_u
 ghost use Rattle.ops.specs.Values.{desk_of, op_of, held, Holds};
 
 use crate::layout::{CAPACITY, DESKS, LENGTH, LOG, MADE, VERSION, WIDTH};
-use crate::types::{Desk, Kind, Memory, Op, OpId};
+use crate::types::{Desk, Full, Kind, Memory, Op, OpId, Tag};
 
 impl Op {
     // The six cells that keep it.
@@ -20,7 +20,7 @@ impl Op {
             Kind::Insert { after, sign } => [
                 n,
                 desk,
-                0,
+                Tag::Insert as u64,
                 u64::from(after.n),
                 u64::from(after.desk.number),
                 u64::from(sign),
@@ -28,20 +28,34 @@ impl Op {
             Kind::Delete { target } => [
                 n,
                 desk,
-                1,
+                Tag::Delete as u64,
                 u64::from(target.n),
                 u64::from(target.desk.number),
                 0,
             ],
-            Kind::Write { key, word } => [n, desk, 2, u64::from(key), u64::from(word), 0],
-            Kind::Add { key, amount } => [n, desk, 3, u64::from(key), u64::from(amount), 0],
+            Kind::Write { key, word } => [
+                n,
+                desk,
+                Tag::Write as u64,
+                u64::from(key),
+                u64::from(word),
+                0,
+            ],
+            Kind::Add { key, amount } => [
+                n,
+                desk,
+                Tag::Add as u64,
+                u64::from(key),
+                u64::from(amount),
+                0,
+            ],
         }
     }
 }
 
 impl Memory<'_> {
-    // A cell's low 32 bits.
-    fn low_half(&self, i: usize) -> u32
+    // A cell's low 32 bits: whatever number stands there, that much of it is read.
+    pub fn low_half(&self, i: usize) -> u32
         requires { i < memory_size }
         ensures { result ≡ low (held self.now) i }
     {
@@ -85,14 +99,15 @@ impl Memory<'_> {
                 number: (y % 32) as u8,
             },
         };
-        let kind = match self.field(k, 2) {
-            0 => Kind::Insert {
+        // a memory may be anything: what has no tag is read as an Add
+        let kind = match Tag::try_from(self.field(k, 2)).unwrap_or(Tag::Add) {
+            Tag::Insert => Kind::Insert {
                 after: target,
                 sign: self.field(k, 5),
             },
-            1 => Kind::Delete { target },
-            2 => Kind::Write { key: x, word: y },
-            _ => Kind::Add { key: x, amount: y },
+            Tag::Delete => Kind::Delete { target },
+            Tag::Write => Kind::Write { key: x, word: y },
+            Tag::Add => Kind::Add { key: x, amount: y },
         };
         Some(Op { id, kind })
     }
@@ -127,24 +142,18 @@ impl Memory<'_> {
         requires { k < 8192 }
         ensures { Holds self.old self.new (sets (held self.old) (slot k) (cells_of (op_of op))) }
     {
-        let row = op.cells();
         let at = LOG + k * WIDTH;
-        self.cells[at] = row[0];
-        self.cells[at + 1] = row[1];
-        self.cells[at + 2] = row[2];
-        self.cells[at + 3] = row[3];
-        self.cells[at + 4] = row[4];
-        self.cells[at + 5] = row[5];
+        self.cells[at..at + WIDTH].copy_from_slice(&op.cells());
     }
 
     // One operation more, if there is room; else nothing is changed.
-    pub fn append(&mut self, op: Op) -> bool
-        ensures room { result ≡ nat_lt (kept (held self.old)) 8192 }
+    pub fn append(&mut self, op: Op) -> Result<(), Full>
+        ensures room { IsOk result ↔ (kept (held self.old) < 8192) }
         ensures after { Holds self.old self.new (appended (held self.old) (op_of op)) }
     {
         let k = self.length();
         if k >= CAPACITY {
-            return false;
+            return Err(Full);
         }
         let made = self.made(op.id.desk);
         let desk = op.id.desk.number as usize;
@@ -152,6 +161,6 @@ impl Memory<'_> {
         self.cells[LENGTH] = (k + 1) as u64;
         self.cells[VERSION + desk] = u64::from(op.id.n);
         self.cells[MADE + desk] = u64::from(made) + 1;
-        true
+        Ok(())
     }
 }

@@ -1,30 +1,26 @@
-use Rattle.std.proofs.Common.{◌≡◌, ◌+◌, ap, ◌∙◌, arith}
-use Rattle.ops.specs.Doc.{count_of, count_at}
-use Rattle.ops.specs.Values.{kind_of, held}
-use Rattle.ops.proofs.Scans.{firsts-all, kept_few}
-use Rattle.keys.proofs.Cases.{count_none, count_on}
+use Rattle.std.proofs.Common.{rules, arith, ◌∙◌}
+use Rattle.std.proofs.lemmas.Iterator.{YieldsList-from_map}
+use Rattle.std.proofs.lemmas.Iterator.Consumers.{YieldsList-from_first, YieldsList-at, sum_by_from_yields_List}
+use Rattle.std.proofs.lemmas.Iterator.Adapters.{fits_from_length, at_most_from_yields_List}
+use borrow.Author.Tests.{tests}
+use Rattle.ops.specs.Doc as doc
+use Rattle.ops.specs.Doc.{count_of}
+use Rattle.ops.specs.Log.{ops_of}
+use Rattle.ops.specs.Values.{held, op_of}
+use Rattle.ops.specs.Operations.{ops_left}
+use Rattle.ops.proofs.Scans.{kept_few}
+use Rattle.ops.proofs.Frames.{length-ops_of}
+use Rattle.keys.proofs.Cases.{sum_by_count}
 use Rattle.keys.proofs.tally.Goals as goal
 
-pub loop-op-init : goal.loop-op-init
-loop-op-init c = (count_none (held c.args.memory.now) c.args.key, omega arith, omega arith)
-
-pub overflow_add-sum : goal.overflow_add-sum
-overflow_add-sum c = omega (arith, kept_few (held c.args.memory.now), c.added_to.type_inv, c.from-sum.ensures)
-
-pub overflow_add-k : goal.overflow_add-k
-overflow_add-k c = omega (arith, kept_few (held c.args.memory.now))
-
-pub loop-op-smaller : goal.loop-op-smaller
-loop-op-smaller c = omega (arith, kept_few (held c.args.memory.now), c.in-Some.ensures.0)
-
-pub loop-op-preserved : goal.loop-op-preserved
-loop-op-preserved c =
-    let h = c.in-Some.ensures in
-    let l = h.0 in
-    let e : c.from-sum.result ≡ count_of c.args.key (kind_of c.in-Some.op.kind) = c.from-sum.ensures ∙ c.added_to.ensures in
-    let f = c.added_to.type_inv in
-    let g = c.from-sum.ensures in
-    (ap (λ n. c.loop-op.sum + n) e ∙ count_on _ _ _ h.1 c.args.key c.loop-op.sum c.loop-op.invariant.0, omega arith, omega arith)
+pub sum-requires-clause-fits : goal.sum-requires-clause-fits
+sum-requires-clause-fits c =
+    fits_from_length _ _ 8192 _
+    (at_most_from_yields_List (YieldsList-at c.map.ensures.source (YieldsList-from_first op_of ops_left (ops_of (held c.args.memory.now)) c.operations.ensures)) (omega (arith, length-ops_of (held c.args.memory.now), kept_few (held c.args.memory.now))))
+    c.map.ensures.closure (omega arith) (λ x r q k. search (rules, tests))
 
 pub returns : goal.returns
-returns c = c.loop-op.invariant.0 ∙ ap (λ ops. count_at ops c.args.key) (firsts-all _ _ c.loop-op.invariant.2 c.in_default.ensures)
+returns c =
+    sum_by_from_yields_List (λ (o : doc.Op). count_of c.args.key o.kind) (ops_of (held c.args.memory.now)) c.map.result c.sum.result c.sum.ensures.ran
+    (YieldsList-from_map _ (λ (o : doc.Op). count_of c.args.key o.kind) (YieldsList-at c.map.ensures.source (YieldsList-from_first op_of ops_left (ops_of (held c.args.memory.now)) c.operations.ensures)) c.map.ensures.closure (λ x r q k. search (rules, tests)))
+    ∙ sum_by_count (ops_of (held c.args.memory.now)) c.args.key

@@ -1,4 +1,4 @@
-use Rattle.std.proofs.Common.{◌<◌, ◌≤◌, sym, refl, ◌∙◌, arith, le-ltb, lt-ltb}
+use Rattle.std.proofs.Common.{◌<◌, ◌≤◌, refl, ◌∙◌, rules, arith}
 use Rattle.ops.specs.Log.{kept}
 use Rattle.ops.specs.Values.{held, op_of}
 use Rattle.ops.proofs.Slots.{append-room, append-full}
@@ -7,13 +7,13 @@ use Rattle.ops.proofs.types.Memory.append.Goals as goal
 pub returns-then-k-ge-CAPACITY : goal.returns-then-k-ge-CAPACITY
 returns-then-k-ge-CAPACITY c =
     let h : 8192 ≤ kept (held c.args.self.now) = omega arith in
-    record { room = sym (le-ltb _ _ h); after = record { after = append-full _ _ h; same = refl } }
+    record { room = search rules; after = record { after = append-full _ _ h; same = refl } }
 
 pub returns : goal.returns
 returns c =
     let h : kept (held c.args.self.now) < 8192 = omega arith in
     record {
-      room = sym (lt-ltb _ _ h);
+      room = search rules;
       after =
           record {
             after =

@@ -1,8 +1,7 @@
-use Rattle.std.proofs.Common.{refl}
-use Rattle.ops.specs.Layout.{slot}
-use Rattle.ops.specs.Values.{held, op_of}
-use Rattle.ops.proofs.Slots.{length_cells, stores_are}
+use Rattle.std.proofs.Common.{refl, arith}
+use Rattle.ops.specs.Values.{op_of}
+use Rattle.ops.proofs.Slots.{length_cells, copied_cells}
 use Rattle.ops.proofs.types.Memory.store.Goals as goal
 
 pub returns : goal.returns
-returns c = record { after = stores_are _ _ (held c.args.self.now) (slot c.args.k) c.cells-row.ensures (length_cells (op_of c.args.op)); same = refl }
+returns c = record { after = copied_cells _ _ _ _ _ _ c.copy_from_slice.ensures.after c.cells.ensures (length_cells (op_of c.args.op)) (omega arith) (omega arith); same = refl }

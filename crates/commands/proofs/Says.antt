@@ -16,11 +16,6 @@ Unlike w v = w ≡ v → ⊥
 pub other : (w v : List ℕ) → Unlike w v → bytes_eq w v ≡ false
 other w v h = ⊎_elim (λ e. absurd (h ((bytes_eq-Decides w v).0 e))) (λ e. e) (cases_Bool (bytes_eq w v))
 
-pub no_command : (w text : List ℕ) → Unlike w (codes "i") → Unlike w (codes "s") → Unlike w (codes "w") → Unlike w (codes "a") → Unlike w (codes "t") → Unlike w (codes "k") → Unlike w (codes "send") → Unlike w (codes "read") → Err NotACommand ≡ command_of w text
-no_command w text i s v a t k send read =
-    sym (cond-false _ _ _ (other w _ i) ∙ cond-false _ _ _ (other w _ s) ∙ cond-false _ _ _ (other w _ v) ∙ cond-false _ _ _ (other w _ a)
-    ∙ cond-false _ _ _ (other w _ t) ∙ cond-false _ _ _ (other w _ k) ∙ cond-false _ _ _ (other w _ send) ∙ cond-false _ _ _ (other w _ read))
-
 pub passed_on : (r : Result Command Fault) (s : Result (Option Command) Fault) → MatchResult r (λ x. s ≡ Ok (Some x)) (λ e. s ≡ Err e) → with_ok if_said s ≡ with_ok Some (with_ok said r)
 passed_on (Ok x) s h = ap (with_ok if_said) h
 passed_on (Err e) s h = ap (with_ok if_said) h

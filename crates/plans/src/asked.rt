@@ -4,7 +4,7 @@ ghost use Rattle.plans.specs.Words.{setting_of, alone};
 
 use crate::options::{Options, Setting};
 
-#[derive(Clone, Copy)]
+#[derive(Clone, Copy, Debug, PartialEq, Eq)]
 pub enum Asked {
     Help,
     Version,
@@ -42,11 +42,7 @@ fn single(word: &str) -> Option<Asked>
 
 // A name and its value.
 fn with(options: Options, name: &str, value: &str) -> Option<Options> {
-    let setting = setting(name)?;
-    match value.parse::<u64>() {
-        Ok(value) => options.with(setting, value),
-        Err(_) => None,
-    }
+    options.with(setting(name)?, value.parse().ok()?)
 }
 
 // What all the words ask for; nothing where one cannot be read.

@@ -1,7 +1,7 @@
 // What days are asked for.
 ghost use Rattle.std.specs.Prelude.{◌≡◌, ◌≤◌};
-ghost use Rattle.std.specs.Option.{SomeIff};
-ghost use Rattle.plans.specs.Settings.{standard, set_to};
+ghost use Rattle.std.specs.Option.{SomeIff, IfSome};
+ghost use Rattle.plans.specs.Settings.{standard, set_to, InRange};
 
 use crate::draw::HUNDRED;
 
@@ -68,7 +68,8 @@ impl Options {
 
     // The options with another value of one; none where the value is out of its range.
     pub fn with(self, setting: Setting, value: u64) -> Option<Options>
-        ensures { result ≡ set_to self setting value }
+        ensures value { result ≡ set_to self setting value }
+        ensures in_range { InRange self → IfSome result InRange }
     {
         Some(match setting {
             Setting::Days => Options {

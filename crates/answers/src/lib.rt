@@ -20,19 +20,15 @@ pub fn key_answer(heap: Global, word: Option<u64>, tally: u64) -> Result<String,
 fn shown(sign: u64) -> char
     ensures { result ≡ character sign }
 {
-    let Ok(code) = u32::try_from(sign) else {
-        return char::REPLACEMENT_CHARACTER;
-    };
-    char::from_u32(code).unwrap_or(char::REPLACEMENT_CHARACTER)
+    u32::try_from(sign)
+        .ok()
+        .and_then(char::from_u32)
+        .unwrap_or(char::REPLACEMENT_CHARACTER)
 }
 
 // What is shown of a text: its signs as characters.
 pub fn text_answer(heap: Global, signs: &[u64]) -> Result<String, AllocError>
     ensures { IfOk result (λ t. string_bytes t ≡ text_of signs.now) }
 {
-    let mut text = String::new(heap);
-    for sign in signs {
-        text.push(shown(*sign))?;
-    }
-    Ok(text)
+    signs.iter().map(|sign| shown(*sign)).collect(heap)
 }

@@ -285,10 +285,9 @@ fn next(state: u32, byte: u8) -> u32
 pub fn crc32(bytes: &[u8]) -> u32
     ensures { result ≡ crc32_of bytes.now }
 {
-    let mut state = ALL_ONES;
-    for byte in bytes {
-        state = next(state, *byte);
-    }
+    let state = bytes
+        .iter()
+        .fold(ALL_ONES, |state, byte| next(state, *byte));
     state ^ ALL_ONES
 }
 

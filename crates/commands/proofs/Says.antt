@@ -1,10 +1,13 @@
 -- What a line says, from its first word and what follows it.
-use Rattle.std.proofs.Common.{◌≡◌, ℕ, false, List, [], ◌∷◌, length, Some, Err, codes, sym, refl, ap, ◌∙◌, ⊎_elim}
+use Rattle.std.proofs.Common.{◌≡◌, ℕ, false, List, [], ◌∷◌, length, Option, Result, Some, Ok, Err, codes, sym, refl, ap, ◌∙◌, ⊎_elim}
 use Rattle.std.specs.Str.{bytes_eq}
 use Rattle.std.proofs.lemmas.Slice.Eq.{bytes_eq-Decides}
 use Rattle.std.proofs.lemmas.Bool.{cond-false, cases_Bool}
 use Rattle.commands.specs.Words.{past_spaces, up_to_spaces, first_of, rest_of}
-use Rattle.commands.specs.Lines.{with_ok, command_of, words_say, line_says}
+use Rattle.commands.specs.Lines.{said, if_said, with_ok, command_of, words_say, line_says}
+use Rattle.std.specs.Result.{MatchResult}
+use Rattle.commands.specs.declared.Command.{Command}
+use Rattle.commands.specs.declared.Fault.{Fault}
 use Rattle.commands.specs.declared.Fault.TheVariants.{NotACommand}
 
 abbrev pub Unlike : List ℕ → List ℕ → Type 0
@@ -13,10 +16,9 @@ Unlike w v = w ≡ v → ⊥
 pub other : (w v : List ℕ) → Unlike w v → bytes_eq w v ≡ false
 other w v h = ⊎_elim (λ e. absurd (h ((bytes_eq-Decides w v).0 e))) (λ e. e) (cases_Bool (bytes_eq w v))
 
-pub no_command : (w text : List ℕ) → Unlike w (codes "i") → Unlike w (codes "s") → Unlike w (codes "w") → Unlike w (codes "a") → Unlike w (codes "t") → Unlike w (codes "k") → Unlike w (codes "send") → Unlike w (codes "read") → Err NotACommand ≡ command_of w text
-no_command w text i s v a t k send read =
-    sym (cond-false _ _ _ (other w _ i) ∙ cond-false _ _ _ (other w _ s) ∙ cond-false _ _ _ (other w _ v) ∙ cond-false _ _ _ (other w _ a)
-    ∙ cond-false _ _ _ (other w _ t) ∙ cond-false _ _ _ (other w _ k) ∙ cond-false _ _ _ (other w _ send) ∙ cond-false _ _ _ (other w _ read))
+pub passed_on : (r : Result Command Fault) (s : Result (Option Command) Fault) → MatchResult r (λ x. s ≡ Ok (Some x)) (λ e. s ≡ Err e) → with_ok if_said s ≡ with_ok Some (with_ok said r)
+passed_on (Ok x) s h = ap (with_ok if_said) h
+passed_on (Err e) s h = ap (with_ok if_said) h
 
 some_words : (text : List ℕ) → (length text ≡ 0 → ⊥) → with_ok Some (command_of (first_of text) (rest_of text)) ≡ words_say text
 some_words [] h = absurd (h refl)

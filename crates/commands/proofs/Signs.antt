@@ -1,9 +1,12 @@
 -- The only character of a word, and a sign that is given by its number.
-use Rattle.std.proofs.Common.{◌≡◌, ℕ, eqb, List, [], ◌∷◌, ◌++◌, length, Some, None, IsUtf8, Option, sym, refl, ap, ◌∙◌, arith}
+use Rattle.std.proofs.Common.{◌≡◌, ℕ, Bool, true, false, not, eqb, List, [], ◌∷◌, ◌++◌, length, Some, None, IsUtf8, Option, sym, refl, ap, ◌∙◌, arith}
 use lib.Utf8.{encode}
 use Rattle.std.specs.Str.{chars}
-use Rattle.std.proofs.lemmas.Bool.{cond-false, ne_eqb}
-use Rattle.std.proofs.lemmas.Str.{chars-nil, chars_past_char, IsUtf8-past_char}
+use Rattle.std.specs.Option.{is_some}
+use Rattle.std.specs.Bool.{then_some}
+use Rattle.std.specs.List.{slice_get}
+use Rattle.std.proofs.lemmas.Bool.{cond-false, ne_eqb, false≢true}
+use Rattle.std.proofs.lemmas.Str.{chars-nil, chars_past_char}
 use Rattle.commands.specs.Numbers.{number_of, coded, only, or_else, sign_of}
 
 none_left : (bs : List ℕ) → length bs ≡ 0 → chars bs ≡ []
@@ -14,15 +17,15 @@ pub only_none : (bs rest : List ℕ) → rest ≡ bs → length rest ≡ 0 → N
 unfolding only
 only_none bs rest e h = ap only (sym (none_left rest h) ∙ ap chars e)
 
-pub only_one : (bs all rest : List ℕ) (c : ℕ) → IsUtf8 bs → all ≡ bs → all ≡ encode c ++ rest → length rest ≡ 0 → Some c ≡ only (chars bs)
+alone : (c : ℕ) (cs : List ℕ) (b : Bool) → is_some (slice_get cs 0) ≡ not b → then_some b c ≡ only (c ∷ cs)
 unfolding only
-only_one bs all rest c u same e h = ap only (ap (λ (l : List ℕ). c ∷ l) (sym (none_left rest h)) ∙ sym (chars_past_char bs rest c u (sym same ∙ e)))
+alone c [] true h = refl
+alone c (d ∷ cs) false h = refl
+alone c [] false h = absurd (false≢true h)
+alone c (d ∷ cs) true h = absurd (false≢true (sym h))
 
-pub only_many : (bs all rest more : List ℕ) (c d : ℕ) → IsUtf8 bs → all ≡ bs → all ≡ encode c ++ rest → rest ≡ encode d ++ more → None ≡ only (chars bs)
-unfolding only
-only_many bs all rest more c d u same e f =
-    let g = sym same ∙ e in
-    ap only (ap (λ (l : List ℕ). c ∷ l) (sym (chars_past_char rest more d (IsUtf8-past_char bs rest c u g) f)) ∙ sym (chars_past_char bs rest c u g))
+pub only_first : (bs all rest : List ℕ) (c : ℕ) (next : Option ℕ) (b : Bool) → IsUtf8 bs → all ≡ bs → all ≡ encode c ++ rest → next ≡ slice_get (chars rest) 0 → is_some next ≡ not b → then_some b c ≡ only (chars bs)
+only_first bs all rest c next b u same e n h = alone c (chars rest) b (ap is_some (sym n) ∙ h) ∙ ap only (sym (chars_past_char bs rest c u (sym same ∙ e)))
 
 pub sign_char : (bs : List ℕ) (c : ℕ) → Some c ≡ only (chars bs) → Some c ≡ sign_of bs
 unfolding sign_of or_else

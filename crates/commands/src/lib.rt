@@ -10,8 +10,9 @@
 // line, which is read again as the command.
 #![tactic(auto)]
 
-ghost use Rattle.std.specs.Prelude.{◌≡◌, ◌+◌, ◌-◌, ◌*◌, ◌^◌, ◌<◌, true, Some};
+ghost use Rattle.std.specs.Prelude.{◌≡◌, ℕ, Option, ◌+◌, ◌-◌, ◌*◌, ◌^◌, ◌<◌, true, Some};
 ghost use Rattle.std.specs.Option.{SomeIff};
+ghost use Rattle.std.specs.Fn.{FnOnceReturnsAt};
 ghost use Rattle.std.specs.Char.{is_ascii_digit};
 ghost use Rattle.std.specs.Str.{chars as decodes};
 ghost use Rattle.commands.specs.Words.{past_spaces, up_to_spaces, first_of, rest_of};
@@ -20,9 +21,10 @@ ghost use Rattle.commands.specs.Lines.{said, if_said, with_ok, Takes, ended, one
 ghost use Rattle.commands.specs.Texts.{fault_text};
 ghost use Rattle.commands.specs.Printed.{text_of, ParsesBack};
 
+use std::error::Error;
 use std::fmt;
 
-#[derive(Clone, Copy)]
+#[derive(Clone, Copy, Debug, PartialEq, Eq)]
 pub enum Command<'a> {
     Insert { place: u64, sign: u64 },
     Strike { place: u64 },
@@ -34,7 +36,7 @@ pub enum Command<'a> {
     Read { desk: u64, file: &'a str },
 }
 
-#[derive(Clone, Copy)]
+#[derive(Clone, Copy, Debug, PartialEq, Eq)]
 pub enum Fault {
     NotACommand,
     NotANumber,
@@ -64,6 +66,8 @@ impl fmt::Display for Fault {
         f.write_str(self.words())
     }
 }
+
+impl Error for Fault {}
 
 // A command as the line that says it. A sign is printed as its number, since a space, as a character, could not be read again.
 impl fmt::Display for Command<'_> {
@@ -137,10 +141,7 @@ fn only_char(text: &str) -> Option<char>
 {
     let mut chars = text.chars();
     let first = chars.next()?;
-    match chars.next() {
-        Some(_) => None,
-        None => Some(first),
-    }
+    chars.next().is_none().then_some(first)
 }
 
 // The sign that a word is: one character, or # and the sign's number.
@@ -154,26 +155,32 @@ fn sign(word: &str) -> Option<u64>
     number(code.as_bytes())
 }
 
+// The first word as it is read, and what begins with the next; a fault where it cannot be read.
+fn take<F: FnOnce(&str) -> Option<u64>>(
+    text: &str,
+    read: F,
+    fault: Fault,
+) -> Result<(u64, &str), Fault>
+    requires { F.IsAlwaysCallable read }
+    ensures { (n : Option ℕ) × FnOnceReturnsAt F.FnOnce read (first_of text.now) n × Takes fault n (rest_of text.now) result }
+{
+    let (word, rest) = split_word(text);
+    let n = read(word).ok_or(fault)?;
+    Ok((n, rest))
+}
+
 // The first word as a number, and what begins with the next.
 pub fn take_number(text: &str) -> Result<(u64, &str), Fault>
     ensures { Takes Fault.NotANumber (number_of (first_of text.now)) (rest_of text.now) result }
 {
-    let (word, rest) = split_word(text);
-    match number(word.as_bytes()) {
-        Some(n) => Ok((n, rest)),
-        None => Err(Fault::NotANumber),
-    }
+    take(text, |word| number(word.as_bytes()), Fault::NotANumber)
 }
 
 // The first word as a sign, and what begins with the next.
 fn take_sign(text: &str) -> Result<(u64, &str), Fault>
     ensures { Takes Fault.NotASign (sign_of (first_of text.now)) (rest_of text.now) result }
 {
-    let (word, rest) = split_word(text);
-    match sign(word) {
-        Some(code) => Ok((code, rest)),
-        None => Err(Fault::NotASign),
-    }
+    take(text, sign, Fault::NotASign)
 }
 
 // No words are left.
@@ -273,8 +280,7 @@ pub fn parse(line: &str) -> Result<Option<Command<'_>>, Fault>
         return Ok(None);
     }
     let (word, rest) = split_word(text);
-    let command = command_from(word, rest)?;
-    Ok(Some(command))
+    command_from(word, rest).map(Some)
 }
 
 // Whether each command that is printed is one line, which is parsed again as the command. It is so if a file's name can be the rest of a line: it is not

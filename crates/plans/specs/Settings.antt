@@ -1,5 +1,5 @@
 -- The options, and what becomes of them when one is given another value.
-use Rattle.std.specs.Prelude.{ℕ, cond, ◌&&◌, Some, None, Option, nat_le}
+use Rattle.std.specs.Prelude.{ℕ, ◌≤◌, cond, ◌&&◌, Some, None, Option, nat_le}
 use Rattle.plans.specs.declared.options.Options.{Options}
 use Rattle.plans.specs.declared.options.Setting.{Setting}
 use Rattle.plans.specs.declared.options.Setting.TheVariants.{Days, Desks, Deeds, Seed, Lose, Twice, Late}
@@ -16,3 +16,7 @@ set_to o Seed v = Some (record { days = o.days; desks = o.desks; deeds = o.deeds
 set_to o Lose v = cond (nat_le v 100) (Some (record { days = o.days; desks = o.desks; deeds = o.deeds; seed = o.seed; lose = v; twice = o.twice; late = o.late })) None
 set_to o Twice v = cond (nat_le v 100) (Some (record { days = o.days; desks = o.desks; deeds = o.deeds; seed = o.seed; lose = o.lose; twice = v; late = o.late })) None
 set_to o Late v = cond (nat_le v 100) (Some (record { days = o.days; desks = o.desks; deeds = o.deeds; seed = o.seed; lose = o.lose; twice = o.twice; late = v })) None
+
+-- from 2 to 32 desks, and percentages up to 100
+abbrev pub InRange : Options → Type 0
+InRange o = (2 ≤ o.desks) × (o.desks ≤ 32) × (o.lose ≤ 100) × (o.twice ≤ 100) × (o.late ≤ 100)

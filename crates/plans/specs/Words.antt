@@ -3,6 +3,7 @@ use Rattle.std.specs.Prelude.{ℕ, cond, List, Some, None, codes, Option}
 use Rattle.std.specs.Str.{bytes_eq}
 use Rattle.plans.specs.declared.options.Setting.{Setting}
 use Rattle.plans.specs.declared.options.Setting.TheVariants.{Days, Desks, Deeds, Seed, Lose, Twice, Late}
+use Rattle.plans.specs.Settings.{InRange}
 use Rattle.plans.specs.declared.asked.Asked.{Asked}
 use Rattle.plans.specs.declared.asked.Asked.TheVariants as asked
 
@@ -25,3 +26,10 @@ alone word =
     (cond (bytes_eq word (codes "--version")) (Some asked.Version)
     (cond (bytes_eq word (codes "--bench")) (Some asked.Bench)
     None))
+
+-- what can be done: days are played only with options in their ranges
+abbrev pub Playable : Asked → Type 0
+Playable asked.Help = Unit {0}
+Playable asked.Version = Unit {0}
+Playable asked.Bench = Unit {0}
+Playable (asked.Days options) = InRange options

@@ -1,10 +1,12 @@
 // What the words after the program's name ask for.
-ghost use Rattle.std.specs.Prelude.{◌≡◌};
-ghost use Rattle.plans.specs.Words.{setting_of, alone};
+ghost use Rattle.std.specs.Prelude.{◌≡◌, [], ◌∷◌, string_bytes};
+ghost use Rattle.std.specs.Option.{IfSome};
+ghost use Rattle.plans.specs.Settings.{InRange};
+ghost use Rattle.plans.specs.Words.{setting_of, alone, Playable};
 
 use crate::options::{Options, Setting};
 
-#[derive(Clone, Copy)]
+#[derive(Clone, Copy, Debug, PartialEq, Eq)]
 pub enum Asked {
     Help,
     Version,
@@ -41,16 +43,17 @@ fn single(word: &str) -> Option<Asked>
 }
 
 // A name and its value.
-fn with(options: Options, name: &str, value: &str) -> Option<Options> {
-    let setting = setting(name)?;
-    match value.parse::<u64>() {
-        Ok(value) => options.with(setting, value),
-        Err(_) => None,
-    }
+fn with(options: Options, name: &str, value: &str) -> Option<Options>
+    ensures { InRange options → IfSome result InRange }
+{
+    options.with(setting(name)?, value.parse().ok()?)
 }
 
 // What all the words ask for; nothing where one cannot be read.
-pub fn asked_for(words: &[String]) -> Option<Asked> {
+pub fn asked_for(words: &[String]) -> Option<Asked>
+    ensures one_word { (word : _) → words.now ≡ word ∷ [] → result ≡ alone (string_bytes word) }
+    ensures in_range { IfSome result Playable }
+{
     if let [word] = words {
         return single(word.as_str());
     }

@@ -2,7 +2,7 @@
 ghost use Rattle.std.specs.Prelude.{◌≡◌, ◌+◌, ◌/◌, ◌%◌, ◌^◌, ◌<◌, ◌≤◌, true, false, ◌≢◌};
 ghost use Rattle.plans.specs.Draws.{next_state, first_state};
 
-#[derive(Clone, Copy)]
+#[derive(Clone, Copy, Debug, PartialEq, Eq)]
 pub struct Draw {
     state: u64,
 }
@@ -12,9 +12,16 @@ const FACTOR: u64 = 6_364_136_223_846_793_005;
 const STEP: u64 = 1_442_695_040_888_963_407;
 
 // A percentage is out of so many.
-const HUNDRED: u64 = 100;
+pub const HUNDRED: u64 = 100;
 
 impl Draw {
+    // The numbers that come after a state.
+    pub fn new(state: u64) -> Draw
+        ensures { result.state ≡ state }
+    {
+        Draw { state }
+    }
+
     // The numbers of one day: each day has a start of its own, so that it can be played alone.
     pub fn of_day(seed: u64, day: u64) -> Draw
         ensures { result.state ≡ first_state seed day }
@@ -22,10 +29,9 @@ impl Draw {
         let state = seed
             .wrapping_mul(FACTOR)
             .wrapping_add(day)
-            .wrapping_mul(FACTOR);
-        Draw {
-            state: state.wrapping_add(STEP),
-        }
+            .wrapping_mul(FACTOR)
+            .wrapping_add(STEP);
+        Draw::new(state)
     }
 
     // A number below another.

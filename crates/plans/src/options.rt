@@ -1,8 +1,11 @@
 // What days are asked for.
 ghost use Rattle.std.specs.Prelude.{◌≡◌, ◌≤◌};
-ghost use Rattle.plans.specs.Settings.{standard, set_to};
+ghost use Rattle.std.specs.Option.{SomeIff, IfSome};
+ghost use Rattle.plans.specs.Settings.{standard, set_to, InRange};
 
-#[derive(Clone, Copy)]
+use crate::draw::HUNDRED;
+
+#[derive(Clone, Copy, Debug, PartialEq, Eq)]
 pub struct Options {
     pub days: u64,
     // From 2 to 32.
@@ -17,7 +20,7 @@ pub struct Options {
 }
 
 // Which of the options is meant.
-#[derive(Clone, Copy)]
+#[derive(Clone, Copy, Debug, PartialEq, Eq)]
 pub enum Setting {
     Days,
     Desks,
@@ -32,7 +35,20 @@ const FEWEST_DESKS: u64 = 2;
 
 const MOST_DESKS: u64 = 32;
 
-const HUNDRED: u64 = 100;
+// So many desks, if there can be so many.
+fn desks(value: u64) -> Option<u64>
+    ensures { SomeIff result ((2 ≤ value) × (value ≤ 32)) value }
+{
+    (FEWEST_DESKS..=MOST_DESKS)
+        .contains(&value)
+        .then_some(value)
+}
+
+fn percentage(value: u64) -> Option<u64>
+    ensures { SomeIff result (value ≤ 100) value }
+{
+    (value <= HUNDRED).then_some(value)
+}
 
 impl Options {
     // What is asked for where nothing is said.
@@ -52,61 +68,39 @@ impl Options {
 
     // The options with another value of one; none where the value is out of its range.
     pub fn with(self, setting: Setting, value: u64) -> Option<Options>
-        ensures { result ≡ set_to self setting value }
+        ensures value { result ≡ set_to self setting value }
+        ensures in_range { InRange self → IfSome result InRange }
     {
-        match setting {
-            Setting::Days => Some(Options {
+        Some(match setting {
+            Setting::Days => Options {
                 days: value,
                 ..self
-            }),
-            Setting::Desks => {
-                if value < FEWEST_DESKS {
-                    return None;
-                }
-                if value > MOST_DESKS {
-                    return None;
-                }
-                Some(Options {
-                    desks: value,
-                    ..self
-                })
-            }
-            Setting::Deeds => Some(Options {
+            },
+            Setting::Desks => Options {
+                desks: desks(value)?,
+                ..self
+            },
+            Setting::Deeds => Options {
                 deeds: value,
                 ..self
-            }),
-            Setting::Seed => Some(Options {
+            },
+            Setting::Seed => Options {
                 seed: value,
                 ..self
-            }),
-            Setting::Lose => {
-                if value > HUNDRED {
-                    return None;
-                }
-                Some(Options {
-                    lose: value,
-                    ..self
-                })
-            }
-            Setting::Twice => {
-                if value > HUNDRED {
-                    return None;
-                }
-                Some(Options {
-                    twice: value,
-                    ..self
-                })
-            }
-            Setting::Late => {
-                if value > HUNDRED {
-                    return None;
-                }
-                Some(Options {
-                    late: value,
-                    ..self
-                })
-            }
-        }
+            },
+            Setting::Lose => Options {
+                lose: percentage(value)?,
+                ..self
+            },
+            Setting::Twice => Options {
+                twice: percentage(value)?,
+                ..self
+            },
+            Setting::Late => Options {
+                late: percentage(value)?,
+                ..self
+            },
+        })
     }
 
     // How many desks there are, in every case at least two.
@@ -114,6 +108,14 @@ impl Options {
         ensures bound { (2 ≤ result) × (result ≤ 32) }
         ensures same { 2 ≤ self.now.desks → self.now.desks ≤ 32 → result ≡ self.now.desks }
     {
-        self.desks.max(FEWEST_DESKS).min(MOST_DESKS)
+        self.desks.clamp(FEWEST_DESKS, MOST_DESKS)
+    }
+}
+
+impl Default for Options {
+    ghost is_default = { λ options. options ≡ standard };
+
+    fn default() -> Options {
+        Options::standard()
     }
 }

@@ -2,7 +2,7 @@
 ghost use Rattle.std.specs.Prelude.{◌≡◌};
 ghost use Rattle.plans.specs.Sums.{nothing, both, sum};
 
-#[derive(Clone, Copy)]
+#[derive(Clone, Copy, Debug, Default, PartialEq, Eq)]
 pub struct Summary {
     pub days: u64,
     pub events: u64,
@@ -25,21 +25,7 @@ impl Summary {
     pub fn nothing() -> Summary
         ensures { result ≡ nothing }
     {
-        Summary {
-            days: 0,
-            events: 0,
-            deeds: 0,
-            refused: 0,
-            letters_made: 0,
-            letters_come: 0,
-            letters_lost: 0,
-            letters_doubled: 0,
-            letter_bytes: 0,
-            meetings: 0,
-            meeting_bytes: 0,
-            compared: 0,
-            differences: 0,
-        }
+        Summary::default()
     }
 
     // Of these days and of others.

@@ -12,13 +12,13 @@
 
 ghost use Rattle.std.specs.Prelude.{◌≡◌, true, Some};
 ghost use Rattle.commands.specs.Lines.{with_ok};
-ghost use Rattle.sessions.specs.Session.{noted, number_and_rest, at_desk, words_note, session_says};
+ghost use Rattle.sessions.specs.Session.{noted, at_desk, words_note, session_says};
 ghost use Rattle.sessions.specs.Shown.{line_of, ReadsBack};
 
 use commands::{Command, Fault};
 use std::fmt;
 
-#[derive(Clone, Copy)]
+#[derive(Clone, Copy, Debug, PartialEq, Eq)]
 pub enum Line<'a> {
     Nothing,
     Version(u64),
@@ -42,24 +42,13 @@ impl fmt::Display for Line<'_> {
     }
 }
 
-// A number, and all that is left, be it nothing.
-fn number_and_rest(text: &str) -> Result<(u64, &str), Fault>
-    ensures { with_ok (λ x. (x.0, x.1.now)) result ≡ number_and_rest text.now }
-{
-    commands::take_number(text)
-}
-
 // The command at a desk that a first word and what follows it say.
 fn at_desk<'a>(word: &str, text: &'a str) -> Result<Line<'a>, Fault>
     ensures { with_ok noted result ≡ at_desk word.now text.now }
 {
-    let Some(desk) = commands::number(word.as_bytes()) else {
-        return Err(Fault::NotACommand);
-    };
-    match commands::parse(text)? {
-        Some(command) => Ok(Line::At { desk, command }),
-        None => Err(Fault::NotACommand),
-    }
+    let desk = commands::number(word.as_bytes()).ok_or(Fault::NotACommand)?;
+    let command = commands::parse(text)?.ok_or(Fault::NotACommand)?;
+    Ok(Line::At { desk, command })
 }
 
 // The line that a first word and what follows it say.
@@ -76,7 +65,7 @@ fn line_from<'a>(word: &str, text: &'a str) -> Result<Line<'a>, Fault>
             Ok(Line::Meet { one, other })
         }
         "expect" => {
-            let (desk, text) = number_and_rest(text)?;
+            let (desk, text) = commands::take_number(text)?;
             Ok(Line::Expect { desk, text })
         }
         _ => at_desk(word, text),

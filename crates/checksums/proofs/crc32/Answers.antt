@@ -1,16 +1,11 @@
-use Rattle.std.proofs.Common.{refl, arith}
-use Rattle.checksums.specs.Crc.{all_ones}
-use Rattle.checksums.proofs.CrcFold.{bytes_more, bytes_all}
+use Rattle.std.proofs.Common.{◌≡◌, fold, rules, ap, ◌∙◌}
+use lib.Bits.{bit_xor}
+use Rattle.checksums.specs.Crc.{all_ones, crc_byte, crc32_of}
+use Rattle.checksums.proofs.CrcFold.{folded}
 use Rattle.checksums.proofs.crc32.Goals as goal
 
-pub loop-byte-init : goal.loop-byte-init
-unfolding all_ones
-loop-byte-init c = refl
-
-pub loop-byte-preserved : goal.loop-byte-preserved
-loop-byte-preserved c =
-    bytes_more c.args.bytes.now c.loop-byte.byte-index c.loop-byte.state c.next-state.result (omega arith) c.next-state.ensures _ c.loop-byte.invariant
-
 pub returns : goal.returns
-unfolding all_ones
-returns c = bytes_all c.args.bytes.now c.loop-byte.byte-index c.loop-byte.state (omega arith) c.loop-byte.invariant
+unfolding all_ones crc32_of
+returns c =
+    let f : c.fold-state.result ≡ fold crc_byte 4294967295 c.args.bytes.now = search rules in
+    ap (λ s. bit_xor s 4294967295) (f ∙ folded 4294967295 c.args.bytes.now)

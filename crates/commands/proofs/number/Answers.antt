@@ -9,9 +9,6 @@ returns-then-is_empty c = sym (no_digits _ (eqb-true _ 0 (sym c.if-is_empty.ensu
 pub returns-in_err-n : goal.returns-in_err-n
 returns-in_err-n c = c.from_residual.ensures ∙ read-no_more _ _ _ c.loop-digit-test.true c.in_err-n.ensures c.loop-digit.invariant.1
 
-pub loop-digit-init : goal.loop-digit-init
-loop-digit-init c = (lit< tt, refl)
-
 pub loop-digit-preserved : goal.loop-digit-preserved
 loop-digit-preserved c =
     let read = c.in_ok-n.ensures in

@@ -1,5 +1,5 @@
 -- A number's bytes give the number again, wherever in a list they stand; and the standard library's bytes of a number are these.
-use Rattle.std.proofs.Common.{◌≡◌, ℕ, zero, suc, ◌+◌, ◌-◌, ◌*◌, ◌/◌, ◌%◌, ◌^◌, ◌<◌, ◌≤◌, List, [], ◌∷◌, ◌++◌, length, get_or, take, drop, refl, ap, ◌∙◌, pow-suc, div-add-mod', add-one, arith, length-drop, length-take, drop-cons, take-take, take_at, drop_at}
+use Rattle.std.proofs.Common.{◌≡◌, ℕ, zero, suc, ◌+◌, ◌*◌, ◌/◌, ◌%◌, ◌^◌, ◌<◌, ◌≤◌, List, [], ◌∷◌, ◌++◌, length, get_or, take, drop, refl, ap, ◌∙◌, pow-suc, div-add-mod', add-one, arith, length-drop, length-take, drop-cons, take-take, take_at, drop_at}
 use native.Mathlib.Nat.{div-div-eq-div-mul}
 use Rattle.journals.specs.Bytes.{little, value, number_at}
 
@@ -49,10 +49,7 @@ no_more : (p : ℕ) (bs : List ℕ) → number_at 0 p bs ≡ 0
 unfolding number_at value
 no_more p bs = refl
 
--- a word that is copied out of bytes, `bytes[p..p + k]`, has the number that stands there
-part : (k p : ℕ) (bs w : List ℕ) → w ≡ take (p + k - p) (drop p bs) → w ≡ take k (drop p bs)
-part k p bs w e = let s : p + k - p ≡ k = omega arith in e ∙ ap (λ (n : ℕ). take n (drop p bs)) s
-
+-- a word that is copied out of bytes has the number that stands there
 word_there : (k p : ℕ) (bs w : List ℕ) → w ≡ take k (drop p bs) → number_at k 0 w ≡ number_at k p bs
 unfolding number_at
 word_there k p bs w e = ap (λ (v : List ℕ). value (take k v)) e ∙ ap value (take-take k k (drop p bs) (omega arith))
@@ -61,9 +58,8 @@ length_word : (k p : ℕ) (bs w : List ℕ) → p + k ≤ length bs → w ≡ ta
 length_word k p bs w h e = let d = length-drop p bs in let t = length-take k (drop p bs) in ap length e ∙ omega arith
 
 module _ (bs w : List ℕ) (p r : ℕ) where
-  pub two_at : p + 2 ≤ length bs → w ≡ take (p + 2 - p) (drop p bs) → r ≡ get_or w 0 0 + get_or w 1 0 * 256 → r ≡ number_at 2 p bs
-  two_at h part-is f =
-      let e = part 2 p bs w part-is in
+  pub two_at : p + 2 ≤ length bs → w ≡ take 2 (drop p bs) → r ≡ get_or w 0 0 + get_or w 1 0 * 256 → r ≡ number_at 2 p bs
+  two_at h e f =
       let l = length_word 2 p bs w h e in
       let z = no_more 2 w in
       let a = one_more 1 0 w (omega arith) in
@@ -71,9 +67,8 @@ module _ (bs w : List ℕ) (p r : ℕ) where
       let t : r ≡ number_at 2 0 w = omega arith in
       t ∙ word_there 2 p bs w e
 
-  pub four_at : p + 4 ≤ length bs → w ≡ take (p + 4 - p) (drop p bs) → r ≡ get_or w 0 0 + get_or w 1 0 * 256 + get_or w 2 0 * 65536 + get_or w 3 0 * 16777216 → r ≡ number_at 4 p bs
-  four_at h part-is f =
-      let e = part 4 p bs w part-is in
+  pub four_at : p + 4 ≤ length bs → w ≡ take 4 (drop p bs) → r ≡ get_or w 0 0 + get_or w 1 0 * 256 + get_or w 2 0 * 65536 + get_or w 3 0 * 16777216 → r ≡ number_at 4 p bs
+  four_at h e f =
       let l = length_word 4 p bs w h e in
       let z = no_more 4 w in
       let a = one_more 3 0 w (omega arith) in
@@ -83,12 +78,11 @@ module _ (bs w : List ℕ) (p r : ℕ) where
       let t : r ≡ number_at 4 0 w = omega arith in
       t ∙ word_there 4 p bs w e
 
-  pub eight_at : p + 8 ≤ length bs → w ≡ take (p + 8 - p) (drop p bs) →
+  pub eight_at : p + 8 ≤ length bs → w ≡ take 8 (drop p bs) →
       r ≡ get_or w 0 0 + get_or w 1 0 * 256 + get_or w 2 0 * 65536 + get_or w 3 0 * 16777216 + get_or w 4 0 * 4294967296 + get_or w 5 0 * 1099511627776
       + get_or w 6 0 * 281474976710656 + get_or w 7 0 * 72057594037927936 →
       r ≡ number_at 8 p bs
-  eight_at h part-is f =
-      let e = part 8 p bs w part-is in
+  eight_at h e f =
       let l = length_word 8 p bs w h e in
       let z = no_more 8 w in
       let a = one_more 7 0 w (omega arith) in

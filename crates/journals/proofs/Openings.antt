@@ -1,13 +1,12 @@
 -- What is read of a header, test by test; and a header that was written is read again.
-use Rattle.std.proofs.Common.{◌≡◌, ℕ, ◌<◌, ◌≤◌, Bool, true, false, eqb, ltb, leb, List, [], ◌∷◌, ◌++◌, length, get_or, take, codes, Decides, sym, refl, ap, ◌∙◌, arith, length-append}
+use Rattle.std.proofs.Common.{◌≡◌, ℕ, ◌<◌, ◌≤◌, Bool, true, false, leb, List, [], ◌∷◌, ◌++◌, length, get_or, take, codes, Ok, Decides, sym, refl, ap, ◌∙◌, arith, length-append}
 use Rattle.std.specs.Str.{bytes_eq}
 use Rattle.std.proofs.lemmas.Slice.Eq.{bytes_eq-Decides}
-use Rattle.std.proofs.lemmas.Bool.{ne_eqb, lt-ltb, le-leb, lt-leb, leb-true, and_parts}
+use Rattle.std.proofs.lemmas.Bool.{lt-ltb, le-leb, lt-leb, leb-true, and_parts}
 use Rattle.checksums.specs.Crc.{crc32_of}
 use Rattle.journals.specs.Bytes.{little, value, number_at, is_sealed}
 use Rattle.journals.specs.Book.{header_of, is_book, is_whole, opening_of}
 use Rattle.journals.specs.Statements.{HeaderReturns}
-use Rattle.journals.specs.declared.headers.Opening.TheVariants.{Book, NotABook, OtherVersion, Damaged}
 use Rattle.journals.proofs.LittleEndian.{length-little}
 use Rattle.journals.proofs.Seals.{sealed-append, sealed-there}
 
@@ -33,38 +32,10 @@ module _ (bs : List ℕ) where
       same false true p q = p.1 (sym (q.0 refl))
       same false false p q = refl
 
-  -- whether it is whole
-  pub not_sealed : is_sealed 8 bs ≡ false → false ≡ is_whole bs
-  unfolding is_whole
-  not_sealed h = rw h
-
-  module _ (seal : is_sealed 8 bs ≡ true) (zeros : ℕ) (there : zeros ≡ number_at 2 6 bs) where
-    pub not_zeros : (zeros ≡ 0 → ⊥) → eqb zeros 0 ≡ is_whole bs
-    unfolding is_whole
-    not_zeros h = rw (seal, ← there, ne_eqb zeros 0 h)
-
-    pub desk_decides : zeros ≡ 0 → ltb (get_or bs 5 0) 32 ≡ is_whole bs
-    unfolding is_whole
-    desk_decides h = rw (seal, ← there, h)
-
-  -- what it says
-  pub not_a_book : is_book bs ≡ false → NotABook ≡ opening_of bs
+  -- of whom it is
+  pub whole : is_book bs ≡ true → get_or bs 4 0 ≡ 1 → is_whole bs ≡ true → Ok (get_or bs 5 0) ≡ opening_of bs
   unfolding opening_of
-  not_a_book h = rw h
-
-  module _ (book : is_book bs ≡ true) where
-    pub other_version : (get_or bs 4 0 ≡ 1 → ⊥) → OtherVersion (get_or bs 4 0) ≡ opening_of bs
-    unfolding opening_of
-    other_version h = rw (book, ne_eqb (get_or bs 4 0) 1 h)
-
-    module _ (version : get_or bs 4 0 ≡ 1) where
-      pub not_whole : is_whole bs ≡ false → Damaged ≡ opening_of bs
-      unfolding opening_of
-      not_whole h = rw (book, version, h)
-
-      pub whole : is_whole bs ≡ true → Book (get_or bs 5 0) ≡ opening_of bs
-      unfolding opening_of
-      whole h = rw (book, version, h)
+  whole book version h = rw (book, version, h)
 
 pub header_returns : HeaderReturns
 unfolding header_of is_book is_whole number_at value front

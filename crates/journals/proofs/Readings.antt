@@ -1,6 +1,6 @@
 -- What is read of bytes, test by test; and an entry that is read takes bytes, of those that there are.
-use Rattle.std.proofs.Common.{◌≡◌, ℕ, ◌+◌, ◌-◌, ◌<◌, ◌≤◌, Bool, true, false, cond, ◌&&◌, eqb, leb, ◌⊎◌, List, length, take, drop, Some, None, Option, sym, refl, ap, ◌∙◌, inl, inr, arith, length-drop, length-take}
-use Rattle.std.proofs.lemmas.Bool.{eq-eqb, ne_eqb, eqb-false, lt-ltb, le-ltb, le-leb, lt-leb, leb-true, and_parts, cases_lt, cases_Bool}
+use Rattle.std.proofs.Common.{◌≡◌, ℕ, ◌+◌, ◌-◌, ◌<◌, ◌≤◌, Bool, true, false, cond, ◌&&◌, eqb, leb, List, length, take, drop, Some, None, Option, sym, refl, ◌∙◌, inl, inr, arith}
+use Rattle.std.proofs.lemmas.Bool.{eq-eqb, ne_eqb, lt-ltb, le-ltb, leb-true, and_parts, cases_lt, cases_Bool}
 use Rattle.journals.specs.Bytes.{number_at, is_sealed}
 use Rattle.journals.specs.Book.{Told, told_of, Ending, end, torn, damaged, Reading, entry, ended, length_of, of_length, next_of}
 
@@ -30,22 +30,7 @@ module _ (bs : List ℕ) where
     unfolding of_length
     whole h s = rw (le-ltb (length bs) (n + 8) h, s)
 
--- the length of the body, by the two numbers that the code reads
-module _ (bs : List ℕ) (n m : ℕ) (first : n ≡ number_at 2 0 bs) (second : m ≡ number_at 2 2 bs) where
-  pub lengths_apart : (m ≡ 65535 - n → ⊥) → None ≡ length_of bs
-  unfolding length_of
-  lengths_apart h = rw (← first, ← second, ne_eqb m (65535 - n) h)
-
-  module _ (fit : m ≡ 65535 - n) where
-    pub out_of_bounds : ((17 ≤ n) × (4113 < n)) ⊎ (n < 17) → None ≡ length_of bs
-    unfolding length_of
-    out_of_bounds (inl h) = rw (← first, ← second, eq-eqb m (65535 - n) fit, le-leb 17 n h.0, lt-leb n 4113 h.1)
-    out_of_bounds (inr h) = rw (← first, ← second, eq-eqb m (65535 - n) fit, lt-leb 17 n h)
-
-    pub in_bounds : 17 ≤ n → n ≤ 4113 → Some n ≡ length_of bs
-    unfolding length_of
-    in_bounds least most = rw (← first, ← second, eq-eqb m (65535 - n) fit, le-leb 17 n least, le-leb n 4113 most)
-
+-- there are bodies of the length that is read
 pub record Bounds (n : ℕ) : Type 0 where
   pub least : 17 ≤ n
   pub most : n ≤ 4113
@@ -66,45 +51,7 @@ length_bounds bs n h = go (eqb (number_at 2 2 bs) (65535 - m) && (leb 17 m && le
         record { least = omega arith; most = omega arith }
     go false e f = let z : ◌≡◌ {A = ℕ} 0 1 = cc in absurd (omega arith)
 
--- what is read, with its places as the code adds them up
-module _ (bs : List ℕ) where
-  pub not_empty : false ≡ eqb (length bs) 0 → 0 < length bs
-  not_empty h = let f = eqb-false (length bs) 0 (sym h) in elim (cases_lt 0 (length bs)) [ inl some ↦ some | inr none ↦ absurd (f (omega arith)) ]
-
-  module _ (long : 4 ≤ length bs) where
-    pub no_length : None ≡ length_of bs → ended damaged ≡ next_of bs
-    unfolding of_length
-    no_length h = ap (λ (o : Option ℕ). of_length o bs) h ∙ sym (past_lengths bs long)
-
-    module _ (n : ℕ) (has : Some n ≡ length_of bs) where
-      on : of_length (Some n) bs ≡ next_of bs
-      on = ap (λ (o : Option ℕ). of_length o bs) has ∙ sym (past_lengths bs long)
-
-      pub torn_is : length bs < 4 + n + 4 → ended torn ≡ next_of bs
-      torn_is h = sym (within-entry bs n (omega arith)) ∙ on
-
-      module _ (all : 4 + n + 4 ≤ length bs) where
-        swap : 4 + n ≡ n + 4
-        swap = omega arith
-
-        pub damaged_is : false ≡ is_sealed (4 + n) bs → ended damaged ≡ next_of bs
-        damaged_is s = sym (not_sealed bs n (omega arith) (ap (λ (k : ℕ). is_sealed k bs) (sym swap) ∙ sym s)) ∙ on
-
-        pub body_long : 17 ≤ length (take (4 + n - 4) (drop 4 bs))
-        body_long =
-            let b = length_bounds bs n has in
-            let t = length-take (4 + n - 4) (drop 4 bs) in
-            let d = length-drop 4 bs in
-            omega arith
-
-        pub entry_is : (t : Told) → true ≡ is_sealed (4 + n) bs → t ≡ told_of (take (4 + n - 4) (drop 4 bs)) → entry t (4 + n + 4) ≡ next_of bs
-        entry_is t s e =
-            let k : 4 + n - 4 ≡ n = omega arith in
-            let size : 4 + n + 4 ≡ n + 8 = omega arith in
-            let w : t ≡ told_of (take n (drop 4 bs)) = e ∙ ap (λ (j : ℕ). told_of (take j (drop 4 bs))) k in
-            (λ i. entry (w i) (size i))
-            ∙ sym (whole bs n (omega arith) (ap (λ (j : ℕ). is_sealed j bs) (sym swap) ∙ sym s)) ∙ on
-
+-- what is read takes bytes
 no-entry : (x : Ending) (e : Told) (n : ℕ) (r : Reading) → r ≡ ended x → r ≡ entry e n → ⊥
 no-entry x e n r p q = let z : ◌≡◌ {A = ℕ} 0 1 = cc in omega arith
 

@@ -1,14 +1,10 @@
 -- What is sealed is found sealed, whatever stands behind it.
-use Rattle.std.proofs.Common.{◌≡◌, ℕ, ◌+◌, true, eqb, List, ◌++◌, length, take, sym, ap, ◌∙◌, append_assoc, length-append, take_at}
+use Rattle.std.proofs.Common.{◌≡◌, ℕ, ◌+◌, true, List, ◌++◌, length, take, sym, ap, ◌∙◌, append_assoc, length-append, take_at}
 use Rattle.std.proofs.lemmas.Bool.{eq-eqb}
 use Rattle.checksums.specs.Crc.{crc32_of}
 use Rattle.checksums.proofs.CrcSize.{crc_small}
 use Rattle.journals.specs.Bytes.{little, number_at, sealed, is_sealed}
 use Rattle.journals.proofs.LittleEndian.{length-little, number-there}
-
-pub sealed_is : (bs : List ℕ) (n a b : ℕ) → a ≡ number_at 4 n bs → b ≡ crc32_of (take n bs) → eqb a b ≡ is_sealed n bs
-unfolding is_sealed
-sealed_is bs n a b e f = ap (λ (x : ℕ). eqb x b) e ∙ ap (eqb (number_at 4 n bs)) f
 
 pub length-sealed : (bs : List ℕ) → length (sealed bs) ≡ length bs + 4
 unfolding sealed

@@ -1,22 +1,16 @@
--- The pieces that the code writes make a header, and an entry; and what a body's pieces say is what the body says.
-use Rattle.std.proofs.Common.{◌≡◌, ℕ, ◌+◌, ◌-◌, ◌/◌, ◌%◌, ◌<◌, ◌≤◌, List, [], ◌∷◌, ◌++◌, length, get_or, take, drop, set, IsErrAnd, Ok, Err, vec_items, Result, Vec, sym, ap, ◌∙◌, append_assoc}
+-- The pieces that the code writes make a header, and an entry.
+use Rattle.std.proofs.Common.{◌≡◌, ℕ, ◌+◌, ◌-◌, ◌/◌, ◌%◌, ◌<◌, ◌≤◌, List, [], ◌∷◌, ◌++◌, length, take, set, IsErrAnd, Ok, Err, vec_items, Result, Vec, sym, ap, ◌∙◌, append_assoc}
 use borrow.Rule.Slice.PartMut.{put_mid}
 use Rattle.std.specs.declared.alloc.Global.{Global}
 use Rattle.std.proofs.lemmas.List.{append-nil}
 use Rattle.std.proofs.lemmas.Result.{err_from_is_err_and}
 use Rattle.checksums.specs.Crc.{crc32_of}
-use Rattle.journals.specs.Bytes.{little, number_at, sealed}
-use Rattle.journals.specs.Book.{header_of, Told, told_of, longest_letter, body_of, lengths, unsealed_of, bytes_of, Writes}
+use Rattle.journals.specs.Bytes.{little, sealed}
+use Rattle.journals.specs.Book.{header_of, Told, longest_letter, body_of, lengths, unsealed_of, bytes_of, Writes}
 use Rattle.journals.specs.declared.entries.Fault.{Fault}
 use Rattle.journals.specs.declared.entries.Fault.TheVariants.{TooLong, NoMemory}
 use Rattle.journals.proofs.LittleEndian.{four_bytes}
 use Rattle.journals.proofs.Returns.{length_body}
-
--- a body
-pub told_is : (body letter : List ℕ) (x y : ℕ) → x ≡ number_at 8 1 body → y ≡ number_at 8 9 body → letter ≡ drop 17 body →
-    ◌≡◌ {A = Told} (record { kind = get_or body 0 0; a = x; b = y; letter = letter }) (told_of body)
-unfolding told_of
-told_is body letter x y p q r = λ i. record { kind = get_or body 0 0; a = p i; b = q i; letter = r i }
 
 sealed_by : (bs crc : List ℕ) → crc ≡ little 4 (crc32_of bs) → bs ++ crc ≡ sealed bs
 unfolding sealed

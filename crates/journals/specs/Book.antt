@@ -7,10 +7,11 @@ use Rattle.journals.specs.Bytes.{little, number_at, sealed, is_sealed}
 use Rattle.journals.specs.declared.entries.Entry.{Entry}
 use Rattle.journals.specs.declared.entries.Fault.{Fault}
 use Rattle.journals.specs.declared.entries.Fault.TheVariants.{TooLong, NoMemory}
+use Rattle.journals.specs.declared.entries.Flaw.{Flaw}
+use Rattle.journals.specs.declared.entries.Flaw.TheVariants as flaw
 use Rattle.journals.specs.declared.entries.Next.{Next}
-use Rattle.journals.specs.declared.entries.Next.TheVariants as next
-use Rattle.journals.specs.declared.headers.Opening.{Opening}
-use Rattle.journals.specs.declared.headers.Opening.TheVariants.{Book, NotABook, OtherVersion, Damaged}
+use Rattle.journals.specs.declared.headers.HeaderFault.{HeaderFault}
+use Rattle.journals.specs.declared.headers.HeaderFault.TheVariants.{NotABook, OtherVersion, Damaged}
 
 -- THE HEADER: "BOOK", the version, the desk, two bytes that are 0, and the CRC of these
 unfoldable pub header_of : ℕ → List ℕ
@@ -24,11 +25,12 @@ is_book bs = nat_le 12 (length bs) && bytes_eq (take 4 bs) (codes "BOOK")
 unfoldable pub is_whole : List ℕ → Bool
 is_whole bs = is_sealed 8 bs && (number_at 2 6 bs == 0 && nat_lt (slice_index bs 5) 32)
 
-unfoldable pub opening_of : List ℕ → Opening
+-- whose book it opens, or why none
+unfoldable pub opening_of : List ℕ → Result ℕ HeaderFault
 opening_of bs =
-    cond (not (is_book bs)) NotABook
-    (cond (not (slice_index bs 4 == 1)) (OtherVersion (slice_index bs 4))
-    (cond (is_whole bs) (Book (slice_index bs 5)) Damaged))
+    cond (not (is_book bs)) (Err NotABook)
+    (cond (not (slice_index bs 4 == 1)) (Err (OtherVersion (slice_index bs 4)))
+    (cond (is_whole bs) (Ok (slice_index bs 5)) (Err Damaged)))
 
 -- AN ENTRY: what a desk's machine was told, the letter as its bytes
 pub record Told : Type 0 where
@@ -72,11 +74,11 @@ pub data Reading : Type 0 where
   entry : Told → (size : ℕ) → Reading
   ended : Ending → Reading
 
-abbrev pub reading : Next → Reading
-reading (next.Entry e size) = entry (told e) size
-reading next.End = ended end
-reading next.Torn = ended torn
-reading next.Damaged = ended damaged
+abbrev pub reading : Result (Option Next) Flaw → Reading
+reading (Ok (Some n)) = entry (told n.entry) n.size
+reading (Ok None) = ended end
+reading (Err flaw.Torn) = ended torn
+reading (Err flaw.Damaged) = ended damaged
 
 -- the length of the body, if both lengths say so and there are bodies of that length
 unfoldable pub length_of : List ℕ → Option ℕ

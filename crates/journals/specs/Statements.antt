@@ -1,7 +1,6 @@
 -- The statement of each theorem.
-use Rattle.std.specs.Prelude.{◌≡◌, ℕ, suc, ◌^◌, ◌<◌, ◌≤◌, ◌⊎◌, List, [], ◌∷◌, ◌++◌, length, take}
+use Rattle.std.specs.Prelude.{◌≡◌, ℕ, suc, ◌^◌, ◌<◌, ◌≤◌, ◌⊎◌, List, [], ◌∷◌, ◌++◌, length, take, Ok}
 use Rattle.journals.specs.Book.{Told, longest_letter, header_of, opening_of, bytes_of, entry, next_of, end, torn, book_of, and_then, read_all}
-use Rattle.journals.specs.declared.headers.Opening.TheVariants.{Book}
 use Rattle.journals.specs.declared.Theorem.{Theorem}
 use Rattle.journals.specs.declared.Theorem.TheVariants as theorem
 
@@ -15,7 +14,7 @@ AllWritable (e ∷ es) = Writable e × AllWritable es
 
 -- a header that was written is read, whatever stands behind it
 abbrev pub HeaderReturns : Type 0
-HeaderReturns = (desk : ℕ) (rest : List ℕ) → desk < 32 → opening_of (header_of desk ++ rest) ≡ Book desk
+HeaderReturns = (desk : ℕ) (rest : List ℕ) → desk < 32 → opening_of (header_of desk ++ rest) ≡ Ok desk
 
 -- an entry that was written is read, with its size, whatever stands behind it
 abbrev pub EntryReturns : Type 0

@@ -28,7 +28,7 @@ const LONGEST_LETTER: usize = 4096;
 const LONGEST_BODY: usize = LETTER_AT + LONGEST_LETTER;
 
 // The arguments of a machine's step.
-#[derive(Clone, Copy)]
+#[derive(Clone, Copy, PartialEq, Eq, Debug)]
 pub struct Entry<'a> {
     pub kind: u8,
     pub a: u64,
@@ -37,7 +37,7 @@ pub struct Entry<'a> {
 }
 
 // Why an entry isn't written.
-#[derive(Debug, Clone, Copy)]
+#[derive(Clone, Copy, PartialEq, Eq, Debug)]
 pub enum Fault {
     TooLong,
     NoMemory,
@@ -59,13 +59,16 @@ impl<T: Drop> From<AllocFailed<T>> for Fault {
     }
 }
 
-// What the first bytes of what is left of a book are.
-#[derive(Clone, Copy)]
-pub enum Next<'a> {
-    // An entry, and how many bytes it takes.
-    Entry { entry: Entry<'a>, size: usize },
-    // There are none.
-    End,
+// An entry that was read, and how many bytes it takes.
+#[derive(Clone, Copy, PartialEq, Eq, Debug)]
+pub struct Next<'a> {
+    pub entry: Entry<'a>,
+    pub size: usize,
+}
+
+// Why no entry is read where there are bytes left.
+#[derive(Clone, Copy, PartialEq, Eq, Debug)]
+pub enum Flaw {
     // The bytes end before the entry does.
     Torn,
     Damaged,
@@ -102,23 +105,19 @@ pub fn write_entry(heap: Global, entry: Entry) -> Result<Vec<u8>, Fault>
 }
 
 // The length of the body, if both lengths say so and there are bodies of that length.
+#[tactic(auto, unfolding(crate::specs::Book::length_of))]
 fn body_length(bytes: &[u8]) -> Option<usize>
     requires { 4 ≤ length bytes.now }
     ensures { result ≡ length_of bytes.now }
 {
     let n = u16_at(bytes, LENGTH_AT);
-    if u16_at(bytes, COMPLEMENT_AT) != u16::MAX - n {
-        return None;
-    }
-    let n = n as usize;
-    if LETTER_AT <= n && n <= LONGEST_BODY {
-        Some(n)
-    } else {
-        None
-    }
+    let is_true = u16_at(bytes, COMPLEMENT_AT) == u16::MAX - n;
+    let n = usize::from(n);
+    (is_true && (LETTER_AT..=LONGEST_BODY).contains(&n)).then_some(n)
 }
 
 // What a body says.
+#[tactic(auto, unfolding(crate::specs::Book::told_of))]
 fn entry_of(body: &[u8]) -> Entry<'_>
     requires { 17 ≤ length body.now }
     ensures { told result ≡ told_of body.now }
@@ -131,28 +130,27 @@ fn entry_of(body: &[u8]) -> Entry<'_>
     }
 }
 
-// The next entry of a book, of the bytes that are left.
-pub fn next_entry(bytes: &[u8]) -> Next<'_>
+// The next entry of a book, if there is one, of the bytes that are left.
+#[tactic(auto, using(crate::proofs::Readings::length_bounds), unfolding(crate::specs::Book::next_of, crate::specs::Book::of_length))]
+pub fn next_entry(bytes: &[u8]) -> Result<Option<Next<'_>>, Flaw>
     ensures { reading result ≡ next_of bytes.now }
 {
     if bytes.is_empty() {
-        return Next::End;
+        return Ok(None);
     }
     if bytes.len() < BODY_AT {
-        return Next::Torn;
+        return Err(Flaw::Torn);
     }
-    let Some(n) = body_length(bytes) else {
-        return Next::Damaged;
-    };
+    let n = body_length(bytes).ok_or(Flaw::Damaged)?;
     let crc_at = BODY_AT + n;
     if bytes.len() < crc_at + CRC {
-        return Next::Torn;
+        return Err(Flaw::Torn);
     }
     if !is_sealed(bytes, crc_at) {
-        return Next::Damaged;
+        return Err(Flaw::Damaged);
     }
-    Next::Entry {
+    Ok(Some(Next {
         entry: entry_of(&bytes[BODY_AT..crc_at]),
         size: crc_at + CRC,
-    }
+    }))
 }

@@ -22,10 +22,9 @@ const CRC_AT: usize = 8;
 
 const SIZE: usize = 12;
 
-// What the first bytes of a file are.
-#[derive(Clone, Copy)]
-pub enum Opening {
-    Book { desk: u8 },
+// Why the first bytes of a file are no header.
+#[derive(Clone, Copy, PartialEq, Eq, Debug)]
+pub enum HeaderFault {
     NotABook,
     OtherVersion(u8),
     Damaged,
@@ -52,31 +51,28 @@ fn is_book(bytes: &[u8]) -> bool
 }
 
 // Whether the header of a book of this version is sealed, has the two bytes that are 0, and names a desk.
+#[tactic(auto, unfolding(crate::specs::Book::is_whole))]
 fn is_whole(bytes: &[u8]) -> bool
     requires { 12 ≤ length bytes.now }
     ensures { result ≡ is_whole bytes.now }
 {
-    if !is_sealed(bytes, CRC_AT) {
-        return false;
-    }
-    u16_at(bytes, ZEROS_AT) == 0 && bytes[DESK_AT] < DESKS
+    is_sealed(bytes, CRC_AT) && u16_at(bytes, ZEROS_AT) == 0 && bytes[DESK_AT] < DESKS
 }
 
-// What a file is by its header.
-pub fn read_header(bytes: &[u8]) -> Opening
+// The desk whose book a file is, by its header.
+#[tactic(auto, using(crate::proofs::Openings::book_long), unfolding(crate::specs::Book::opening_of))]
+pub fn read_header(bytes: &[u8]) -> Result<u8, HeaderFault>
     ensures { result ≡ opening_of bytes.now }
 {
     if !is_book(bytes) {
-        return Opening::NotABook;
+        return Err(HeaderFault::NotABook);
     }
     let version = bytes[VERSION_AT];
     if version != VERSION {
-        return Opening::OtherVersion(version);
+        return Err(HeaderFault::OtherVersion(version));
     }
     if !is_whole(bytes) {
-        return Opening::Damaged;
+        return Err(HeaderFault::Damaged);
     }
-    Opening::Book {
-        desk: bytes[DESK_AT],
-    }
+    Ok(bytes[DESK_AT])
 }

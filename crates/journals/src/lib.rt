@@ -19,8 +19,8 @@ mod entries;
 mod headers;
 mod numbers;
 
-pub use entries::{Entry, Fault, Next, next_entry, write_entry};
-pub use headers::{Opening, header, read_header};
+pub use entries::{Entry, Fault, Flaw, Next, next_entry, write_entry};
+pub use headers::{HeaderFault, header, read_header};
 
 // Theorems by name; specs/Statements.antt has the statement of each.
 #[derive(Clone, Copy)]

@@ -1,6 +1,6 @@
 // A desk twice: as a paper of what it knows, and as a plain desk.
-use papers::{Command, Deed, Paper};
-use plain_desks::PlainDesk;
+use papers::{Command, Deed, Paper, Refusal};
+use plain_desks::{Fault, PlainDesk};
 use std::alloc::{AllocError, Global};
 
 #[derive(Drop)]
@@ -10,25 +10,13 @@ pub struct Desk {
     plain: PlainDesk,
 }
 
-// The number of a refusal, or 0.
-fn reply(answer: Result<(), u64>) -> u64 {
-    match answer {
-        Ok(()) => 0,
-        Err(refusal) => refusal,
-    }
-}
-
 fn spells(signs: &[u64], text: &str) -> bool {
     let bytes = text.as_bytes();
-    if signs.len() != bytes.len() {
-        return false;
-    }
-    for (sign, byte) in signs.iter().zip(bytes) {
-        if *sign != u64::from(*byte) {
-            return false;
-        }
-    }
-    true
+    signs.len() == bytes.len()
+        && signs
+            .iter()
+            .zip(bytes)
+            .all(|(&sign, &byte)| sign == u64::from(byte))
 }
 
 impl Desk {
@@ -40,26 +28,25 @@ impl Desk {
         }
     }
 
-    fn does_on_paper(&mut self, command: Command) -> Result<u64, AllocError> {
-        match self.paper.deed(self.number, command) {
-            Ok(deed) => {
-                self.paper.hear(deed)?;
-                Ok(0)
-            }
-            Err(refusal) => Ok(refusal),
-        }
+    fn does_on_paper(&mut self, command: Command) -> Result<(), Fault> {
+        let deed = self.paper.deed(self.number, command)?;
+        self.paper.hear(deed)?;
+        Ok(())
     }
 
-    // Whether a command is answered with this number.
+    // Whether a command is answered so.
     pub fn does(
         &mut self,
         heap: Global,
         command: Command,
-        number: u64,
+        answer: Result<(), Refusal>,
     ) -> Result<bool, AllocError> {
-        let on_paper = self.does_on_paper(command)?;
-        let plain = reply(self.plain.does(heap, command)?);
-        Ok(on_paper == number && plain == number && self.paper.len() == self.plain.len())
+        let answers = [self.does_on_paper(command), self.plain.does(heap, command)];
+        if answers.contains(&Err(Fault::NoMemory)) {
+            return Err(AllocError);
+        }
+        let expected = answer.map_err(Fault::Refused);
+        Ok(answers == [expected; 2] && self.paper.len() == self.plain.len())
     }
 
     pub fn letter(&self, heap: Global) -> Result<Vec<Deed>, AllocError> {

@@ -1,12 +1,12 @@
 // The steps of a trial, and how one is taken.
 use crate::desk::Desk;
-use papers::Command;
+use papers::{Command, Refusal};
 use std::alloc::{AllocError, Global};
 
 #[derive(Clone, Copy)]
 pub enum Step {
-    // A desk does a command, and is answered 0 or the number of a refusal.
-    Does(usize, Command, u64),
+    // A desk does a command, and is answered so.
+    Does(usize, Command, Result<(), Refusal>),
     // One desk tells another all that it knows.
     Tells(usize, usize),
     Shows(usize, &'static str),
@@ -16,8 +16,8 @@ pub enum Step {
 
 fn take(heap: Global, desks: &mut [Desk], step: Step) -> Result<bool, AllocError> {
     match step {
-        Step::Does(desk, command, number) => match desks.get_mut(desk) {
-            Some(desk) => desk.does(heap, command, number),
+        Step::Does(desk, command, answer) => match desks.get_mut(desk) {
+            Some(desk) => desk.does(heap, command, answer),
             None => Ok(false),
         },
         Step::Tells(from, to) => {
@@ -34,10 +34,13 @@ fn take(heap: Global, desks: &mut [Desk], step: Step) -> Result<bool, AllocError
             Some(desk) => desk.shows(heap, text),
             None => Ok(false),
         },
-        Step::Keeps(desk, key, word, tally) => match desks.get(desk) {
-            Some(desk) => Ok(desk.keeps(key, word, tally)),
-            None => Ok(false),
-        },
+        Step::Keeps(desk, key, word, tally) => {
+            Ok(
+                desks
+                    .get(desk)
+                    .is_some_and(|desk| desk.keeps(key, word, tally)),
+            )
+        }
     }
 }
 

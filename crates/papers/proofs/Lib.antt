@@ -1,6 +1,5 @@
-pub mod Left
-pub mod Beside
+pub mod Over
+pub mod Picks
 pub mod Newest
-pub mod Leading
 pub mod Rows
 pub mod Turns

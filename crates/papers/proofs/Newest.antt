@@ -1,118 +1,93 @@
--- The newest word under a key: of the deeds further on, the newest one is all that matters.
-use Rattle.std.proofs.Common.{◌≡◌, ℕ, ◌+◌, ◌-◌, ◌<◌, ◌≤◌, Bool, true, false, List, [], ◌∷◌, map, length, get_or, take, Some, None, Option, sym, refl, ap, ◌∙◌, arith, eq-eqb, ne_eqb}
+-- The newest word under a key: of the words that deeds write there, the one of the newest name.
+use Rattle.std.proofs.Common.{◌≡◌, ℕ, Bool, true, false, eqb, List, [], ◌∷◌, map, take, Some, None, Option, sym, refl, ap, ◌∙◌, arith, eq-eqb, ne_eqb}
+use Rattle.std.specs.List.{fold, reduce, filter_map, cons_option}
 use Rattle.std.specs.Option.{option_map, option_to_list}
+use Rattle.std.proofs.lemmas.Bool.Decides.{nat_tests}
 use Rattle.ops.specs.Doc as doc
-use Rattle.ops.specs.Doc.{pick, those, id_before, put_op, newest_first, is_under, word_of, first_word, word_at}
-use Rattle.ops.proofs.Members.{those_yes, those-no}
+use Rattle.ops.specs.Doc.{pick, those, id_before, is_under, under, put_op, newest_first, first_word, word_of, word_at}
 use Rattle.papers.specs.Deeds.{id_of, kind_of, op_of}
-use Rattle.papers.specs.Words.{newest_under, found}
+use Rattle.papers.specs.Words.{written_under, named_word}
+use Rattle.papers.specs.declared.deeds.Name.{Name}
 use Rattle.papers.specs.declared.deeds.Deed.{Deed}
 use Rattle.papers.specs.declared.deeds.What.{What}
 use Rattle.papers.specs.declared.deeds.What.TheVariants.{Put, Strike, Write, Add}
-use Rattle.papers.specs.declared.written.Written.{Written}
-use Rattle.papers.proofs.Left.{left, left_more, left_none}
 
-abbrev writes : ℕ → doc.Op → Bool
-writes k o = is_under k o.kind
+-- of two words the one of the newer name; of the same name, the latter
+abbrev pub newer : Name × ℕ → Name × ℕ → Name × ℕ
+newer v w = pick (id_before (id_of w.0) (id_of v.0)) v w
 
-first_put : (o : doc.Op) (ps : List doc.Op) → take 1 (put_op o ps) ≡ take 1 (put_op o (take 1 ps))
+abbrev op_under : ℕ → Name × ℕ → doc.Op
+op_under k w = record { name = id_of w.0; kind = under k w.1 }
+
+-- the words are those of the operations that write under the key
+write_here : (k : ℕ) (n : Name) (at word : ℕ) (t : Bool) → eqb at k ≡ t → (os : List doc.Op) (ws : List (Name × ℕ)) → os ≡ map (op_under k) ws →
+    pick (eqb k at) (record { name = id_of n; kind = under at word } ∷ os) os ≡ map (op_under k) (cons_option (option_map (λ w. (n, w)) (pick t (Some word) None)) ws)
+write_here k n at word true e os ws h = let i : at ≡ k = grind (arith, nat_tests) in rw (i, eq-eqb k k refl, h) refl
+write_here k n at word false e os ws h = let i : at ≡ k → ⊥ = grind (arith, nat_tests) in rw (ne_eqb k at (λ j. i (sym j)), h) refl
+
+written_more : (k : ℕ) (n : Name) (a : What) (os : List doc.Op) (ws : List (Name × ℕ)) → os ≡ map (op_under k) ws →
+    pick (is_under k (kind_of a)) (record { name = id_of n; kind = kind_of a } ∷ os) os ≡ map (op_under k) (cons_option (option_map (λ w. (n, w)) (written_under k a)) ws)
+unfolding is_under
+written_more k n (Put a b) os ws h = h
+written_more k n (Strike a) os ws h = h
+written_more k n (Write at word) os ws h = write_here k n at word (eqb at k) refl os ws h
+written_more k n (Add a b) os ws h = h
+
+written : (k : ℕ) (ds : List Deed) → those (λ o. is_under k o.kind) (map op_of ds) ≡ map (op_under k) (filter_map (named_word k) ds)
+unfolding those
+written k [] = refl
+written k (d ∷ ds) = written_more k d.name d.what _ _ (written k ds)
+
+-- newer is one and the same, however it is bracketed
+newer_chain : (a b c : Name × ℕ) → newer (newer a b) c ≡ newer a (newer b c)
+newer_chain a b c = go (id_before (id_of b.0) (id_of a.0)) (id_before (id_of c.0) (id_of b.0)) refl refl
+  where
+    go : (s t : Bool) → id_before (id_of b.0) (id_of a.0) ≡ s → id_before (id_of c.0) (id_of b.0) ≡ t → newer (pick s a b) c ≡ newer a (pick t b c)
+    go true true e f = grind (arith, nat_tests)
+    go true false e f = refl
+    go false true e f = ap (λ t. pick t b c) f ∙ sym (ap (λ t. pick t a b) e)
+    go false false e f = grind (arith, nat_tests)
+
+newer-fold : (a b : Name × ℕ) (ws : List (Name × ℕ)) → fold newer (newer a b) ws ≡ newer a (fold newer b ws)
+newer-fold a b [] = refl
+newer-fold a b (w ∷ ws) = ap (λ v. fold newer v ws) (newer_chain a b w) ∙ newer-fold a (newer b w) ws
+
+-- the first of the newest first is the newest
+front_put : (o : doc.Op) (ps : List doc.Op) → take 1 (put_op o ps) ≡ take 1 (put_op o (take 1 ps))
 unfolding put_op
-first_put o [] = refl
-first_put o (p ∷ ps) = go (id_before p.name o.name)
+front_put o [] = refl
+front_put o (p ∷ ps) = go (id_before p.name o.name)
   where
     go : (t : Bool) → take 1 (pick t (o ∷ p ∷ ps) (p ∷ put_op o ps)) ≡ take 1 (pick t (o ∷ p ∷ []) (p ∷ put_op o []))
     go true = refl
     go false = refl
 
--- one that does not write there is passed over; of one that does, and those behind it, the newest stays
-newest_no : (k : ℕ) (o : doc.Op) (os : List doc.Op) → writes k o ≡ false → newest_under k (o ∷ os) ≡ newest_under k os
-unfolding newest_under
-newest_no k o os e = rw (those-no (writes k) o os e)
-
-newest_yes : (k : ℕ) (o : doc.Op) (os : List doc.Op) → writes k o ≡ true → newest_under k (o ∷ os) ≡ take 1 (put_op o (newest_under k os))
-unfolding newest_under newest_first
-newest_yes k o os e = rw (those_yes (writes k) o os e) (first_put o (newest_first (those (writes k) os)))
-
-newest_cons : (k : ℕ) (o : doc.Op) (os ps : List doc.Op) → newest_under k os ≡ newest_under k ps → newest_under k (o ∷ os) ≡ newest_under k (o ∷ ps)
-newest_cons k o os ps e = go (writes k o) refl
+put_newer : (k : ℕ) (v w : Name × ℕ) → take 1 (put_op (op_under k v) (op_under k w ∷ [])) ≡ op_under k (newer v w) ∷ []
+unfolding put_op
+put_newer k v w = go (id_before (id_of w.0) (id_of v.0))
   where
-    go : (t : Bool) → writes k o ≡ t → newest_under k (o ∷ os) ≡ newest_under k (o ∷ ps)
-    go true f = newest_yes k o os f ∙ ap (λ l. take 1 (put_op o l)) e ∙ sym (newest_yes k o ps f)
-    go false f = newest_no k o os f ∙ e ∙ sym (newest_no k o ps f)
+    go : (t : Bool) → take 1 (pick t (op_under k v ∷ op_under k w ∷ []) (op_under k w ∷ op_under k v ∷ [])) ≡ op_under k (pick t v w) ∷ []
+    go true = refl
+    go false = refl
 
-newest_found : (k : ℕ) (w : Option Written) → newest_under k (found k w) ≡ found k w
-unfolding newest_under found those is_under newest_first put_op
-newest_found k None = refl
-newest_found k (Some w) = rw (eq-eqb k k refl)
+front_newest : (k : ℕ) (ws : List (Name × ℕ)) → take 1 (newest_first (map (op_under k) ws)) ≡ option_to_list (option_map (op_under k) (reduce newer ws))
+unfolding newest_first
+front_newest k [] = refl
+front_newest k (v ∷ []) = unfold put_op in refl
+front_newest k (v ∷ w ∷ ws) =
+    front_put (op_under k v) (newest_first (map (op_under k) (w ∷ ws))) ∙ ap (λ ps. take 1 (put_op (op_under k v) ps)) (front_newest k (w ∷ ws)) ∙ put_newer k v (fold newer w ws)
+    ∙ ap (λ u. op_under k u ∷ []) (sym (newer-fold v w ws))
 
--- a deed before what was found
-passed : (k : ℕ) (d : Deed) (w : Option Written) → writes k (op_of d) ≡ false → found k w ≡ newest_under k (op_of d ∷ found k w)
-passed k d w e = sym (newest_no k (op_of d) (found k w) e ∙ newest_found k w)
+first_of_front : (os : List doc.Op) → first_word os ≡ first_word (take 1 os)
+first_of_front [] = refl
+first_of_front (o ∷ os) = unfold first_word in refl
 
-pub writes_nothing : (k : ℕ) (d : Deed) (w : Option Written) → ((x y : ℕ) → d.what ≡ Write x y → ⊥) → found k w ≡ newest_under k (op_of d ∷ found k w)
-writes_nothing k d w h = passed k d w (go d.what h)
-  where
-    go : (a : What) → ((x y : ℕ) → a ≡ Write x y → ⊥) → is_under k (kind_of a) ≡ false
-    go (Put a b) h = unfold is_under in refl
-    go (Strike a) h = unfold is_under in refl
-    go (Write a b) h = absurd (h a b refl)
-    go (Add a b) h = unfold is_under in refl
-
-pub writes_elsewhere : (k : ℕ) (d : Deed) (w : Option Written) (at word : ℕ) → d.what ≡ Write at word → (at ≡ k → ⊥) → found k w ≡ newest_under k (op_of d ∷ found k w)
-unfolding is_under
-writes_elsewhere k d w at word e h = passed k d w (rw e (ne_eqb k at (λ g. h (sym g))))
-
-module _ (k : ℕ) (d : Deed) (at word : ℕ) (e : d.what ≡ Write at word) (h : at ≡ k) where
-  abbrev here : Option Written
-  here = Some (record { name = d.name; word = word })
-
-  here_op : op_of d ∷ [] ≡ found k here
-  unfolding found
-  here_op = rw (e, h)
-
-  beside : (w : Option Written) → newest_under k (op_of d ∷ found k w) ≡ take 1 (put_op (op_of d) (found k w))
-  unfolding is_under
-  beside w = newest_yes k (op_of d) (found k w) (rw e (eq-eqb k at (sym h))) ∙ ap (λ l. take 1 (put_op (op_of d) l)) (newest_found k w)
-
-  pub writes_first : (w : Option Written) → w ≡ None → found k here ≡ newest_under k (op_of d ∷ found k w)
-  unfolding found put_op
-  writes_first w f = rw f (sym (beside None ∙ here_op))
-
-  pub writes-newer : (w : Option Written) (v : Written) → w ≡ Some v → true ≡ id_before (id_of v.name) (id_of d.name) → found k here ≡ newest_under k (op_of d ∷ found k w)
-  unfolding found put_op
-  writes-newer w v f g = rw f (sym (beside (Some v) ∙ rw (sym g) here_op))
-
-  pub writes-older : (w : Option Written) (v : Written) → w ≡ Some v → false ≡ id_before (id_of v.name) (id_of d.name) → found k (Some v) ≡ newest_under k (op_of d ∷ found k w)
-  unfolding found put_op
-  writes-older w v f g = rw f (sym (beside (Some v) ∙ rw (sym g) refl))
-
--- going over deeds from the last
-pub newest_none : (k : ℕ) (ds : List Deed) → [] ≡ newest_under k (left (length ds) ds)
-unfolding newest_under those newest_first
-newest_none k ds = sym (ap (newest_under k) (left_none ds (length ds) (omega arith)))
-
-pub newest_more : (k : ℕ) (ds : List Deed) (i : ℕ) (d : Deed) (w r : Option Written) → 0 < i → i ≤ length ds → found k w ≡ newest_under k (left i ds) →
-    found k r ≡ newest_under k (op_of (get_or ds (i - 1) d) ∷ found k w) → found k r ≡ newest_under k (left (i - 1) ds)
-newest_more k ds i d w r h l e f =
-    let e₁ : found k w ≡ newest_under k (left (i - 1 + 1) ds) = e ∙ ap (λ j. newest_under k (left j ds)) (omega arith) in
-    f ∙ newest_cons k (op_of (get_or ds (i - 1) d)) (found k w) (left (i - 1 + 1) ds) (newest_found k w ∙ e₁) ∙ ap (newest_under k) (sym (left_more ds (i - 1) d (omega arith)))
-
--- and at the end the word itself
-word_newest : (k : ℕ) (os : List doc.Op) → word_at os k ≡ first_word (newest_under k os)
-unfolding newest_under
-word_newest k os = go (newest_first (those (writes k) os))
-  where
-    go : (l : List doc.Op) → first_word l ≡ first_word (take 1 l)
-    go [] = refl
-    go (o ∷ os) = unfold first_word in refl
-
-word_of-found : (k : ℕ) (w : Option Written) → option_to_list (option_map (λ v. v.word) w) ≡ first_word (found k w)
-unfolding first_word found word_of
+word_of-found : (k : ℕ) (w : Option (Name × ℕ)) → option_to_list (option_map (λ v. v.1) w) ≡ first_word (option_to_list (option_map (op_under k) w))
+unfolding first_word word_of
 word_of-found k None = refl
 word_of-found k (Some v) = refl
 
-pub word_found : (k : ℕ) (ds : List Deed) (i : ℕ) (w x : Option Written) (os : List doc.Op) → found k w ≡ newest_under k (left i ds) → i ≤ 0 → map op_of ds ≡ os → w ≡ x →
-    option_to_list (option_map (λ v. v.word) x) ≡ word_at os k
-word_found k ds i w x os e h f g =
-    let i₀ : i ≡ 0 = omega arith in
-    ap (λ y. option_to_list (option_map (λ v. v.word) y)) (sym g) ∙ word_of-found k w ∙ ap first_word (e ∙ ap (λ j. newest_under k (left j ds)) i₀ ∙ ap (newest_under k) f) ∙ sym (word_newest k os)
+pub word_is_newest : (k : ℕ) (ds : List Deed) → option_to_list (option_map (λ w. w.1) (reduce newer (filter_map (named_word k) ds))) ≡ word_at (map op_of ds) k
+word_is_newest k ds =
+    word_of-found k (reduce newer (filter_map (named_word k) ds)) ∙ ap first_word (sym (front_newest k (filter_map (named_word k) ds)))
+    ∙ sym (first_of_front (newest_first (map (op_under k) (filter_map (named_word k) ds)))) ∙ ap (λ os. first_word (newest_first os)) (sym (written k ds))

@@ -7,6 +7,9 @@ use Rattle.ops.specs.Doc.{write_under, add_to, highest, no, yes_with, do_it, tur
 use Rattle.papers.specs.Deeds.{kind_of, op_of}
 use Rattle.papers.specs.Papers.{deeds_of}
 use Rattle.papers.specs.Signs.{names, row_of}
+use Rattle.papers.specs.Refusals.{number_of}
+use Rattle.papers.specs.declared.commands.Refusal.{Refusal}
+use Rattle.papers.specs.declared.commands.Refusal.TheVariants.{NoSuchPlace, NoNumber}
 use Rattle.papers.specs.declared.deeds.Name.{Name}
 use Rattle.papers.specs.declared.deeds.What.{What}
 use Rattle.papers.specs.declared.deeds.What.TheVariants as what
@@ -27,27 +30,21 @@ meant ns (Strike place) = option_map (λ n. what.Strike n) (slice_get ns place)
 meant ns (Write key word) = Some (what.Write key word)
 meant ns (Add key amount) = Some (what.Add key amount)
 
--- refusals: there is no such place; no number is left for a name, since the highest that there can be is used
-abbrev pub no_such_place : ℕ
-no_such_place = 4
-
-abbrev pub no_number : ℕ
-no_number = 8
-
+-- the highest number that there can be
 abbrev pub last_number : ℕ
 last_number = 18446744073709551615
 
 -- a deed is what the turn adds to what was known, and a refusal is the turn's; or the numbers for names are used up
-abbrev pub Makes : doc.Turn → List doc.Op → Result Deed ℕ → Type 0
+abbrev pub Makes : doc.Turn → List doc.Op → Result Deed Refusal → Type 0
 Makes t ops (Ok d) = t ≡ yes_with [] (ops ++ op_of d ∷ [])
-Makes t ops (Err r) = (t ≡ no r ops) ⊎ ((r ≡ no_number) × (highest ops ≡ last_number))
+Makes t ops (Err r) = (t ≡ no (number_of r) ops) ⊎ ((r ≡ NoNumber) × (highest ops ≡ last_number))
 
-abbrev pub MadeOf : ℕ → List doc.Op → Option What → Result Deed ℕ → Type 0
-MadeOf w ops None r = r ≡ Err no_such_place
+abbrev pub MadeOf : ℕ → List doc.Op → Option What → Result Deed Refusal → Type 0
+MadeOf w ops None r = r ≡ Err NoSuchPlace
 MadeOf w ops (Some a) r = Makes (do_it w ops (kind_of a)) ops r
 
 -- under keys, precisely the plain paper's turn; signs by what the paper shows
-abbrev pub Answers : ℕ → Paper → Command → Result Deed ℕ → Type 0
+abbrev pub Answers : ℕ → Paper → Command → Result Deed Refusal → Type 0
 Answers w p (Insert place sign) r = MadeOf w (deeds_of p) (meant (shown_names p) (Insert place sign)) r
 Answers w p (Strike place) r = MadeOf w (deeds_of p) (meant (shown_names p) (Strike place)) r
 Answers w p (Write key word) r = Makes (turn w (deeds_of p) (write_under key word)) (deeds_of p) r

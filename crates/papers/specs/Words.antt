@@ -1,15 +1,18 @@
--- The newest word under a key, as a walk over deeds keeps it.
-use Rattle.std.specs.Prelude.{ℕ, List, [], ◌∷◌, take, Some, None, Option}
-use Rattle.ops.specs.Doc as doc
-use Rattle.ops.specs.Doc.{under, is_under, those, newest_first}
-use Rattle.papers.specs.Deeds.{id_of}
-use Rattle.papers.specs.declared.written.Written.{Written}
+-- The words that deeds write under a key.
+use Rattle.std.specs.Prelude.{ℕ, ◌==◌, Some, None, Option}
+use Rattle.std.specs.Option.{option_map}
+use Rattle.ops.specs.Doc.{pick}
+use Rattle.papers.specs.declared.deeds.Name.{Name}
+use Rattle.papers.specs.declared.deeds.What.{What}
+use Rattle.papers.specs.declared.deeds.What.TheVariants.{Put, Strike, Write, Add}
+use Rattle.papers.specs.declared.deeds.Deed.{Deed}
 
--- the newest of the operations that write under a key, or nothing
-unfoldable pub newest_under : ℕ → List doc.Op → List doc.Op
-newest_under k ops = take 1 (newest_first (those (λ o. is_under k o.kind) ops))
+abbrev pub written_under : ℕ → What → Option ℕ
+written_under k (Put behind sign) = None
+written_under k (Strike target) = None
+written_under k (Write at word) = pick (at == k) (Some word) None
+written_under k (Add at amount) = None
 
--- a word that was found there, as the operation that it came from
-unfoldable pub found : ℕ → Option Written → List doc.Op
-found k None = []
-found k (Some w) = record { name = id_of w.name; kind = under k w.word } ∷ []
+-- with the name that it is known by
+abbrev pub named_word : ℕ → Deed → Option (Name × ℕ)
+named_word k d = option_map (λ w. (d.name, w)) (written_under k d.what)

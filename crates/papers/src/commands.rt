@@ -1,19 +1,41 @@
 // What a command makes at a desk that knows a paper.
-ghost use Rattle.std.specs.Prelude.{◌≡◌};
+ghost use Rattle.std.specs.Prelude.{◌≡◌, Some};
+ghost use Rattle.std.specs.Fmt.{decimal};
 ghost use Rattle.ops.specs.Doc.{made_by, highest, do_it};
 ghost use Rattle.papers.specs.Commands.{Makes, Answers, meant, shown_names};
+ghost use Rattle.papers.specs.Refusals.{number_of};
 ghost use Rattle.papers.specs.Deeds.{kind_of};
 ghost use Rattle.papers.specs.Papers.{deeds_of};
 
 use crate::deeds::{Command, Deed, Name, What};
 use crate::paper::Paper;
+use std::fmt;
 
-// The numbers of refusals: there is no such place; the desk has done all that it may; no number is left for a name.
-pub const NO_SUCH_PLACE: u64 = 4;
+// Why a command makes no deed. Each refusal has a number.
+#[derive(Clone, Copy, PartialEq, Eq, Debug)]
+pub enum Refusal {
+    NoSuchPlace = 4,
+    // The desk has done all that it may.
+    TooMany = 7,
+    // No number is left for a name.
+    NoNumber = 8,
+}
 
-pub const TOO_MANY: u64 = 7;
+impl From<Refusal> for u64 {
+    ghost from_gives = { λ refusal number. number ≡ number_of refusal };
 
-pub const NO_NUMBER: u64 = 8;
+    fn from(refusal: Refusal) -> u64 {
+        refusal as u64
+    }
+}
+
+impl fmt::Display for Refusal {
+    ghost output = { λ refusal. Some (decimal (number_of refusal)) };
+
+    fn fmt<W: fmt::Write>(&self, f: &mut fmt::Formatter<W>) -> fmt::Result {
+        u64::from(*self).fmt(f)
+    }
+}
 
 // How many deeds a desk may do.
 const MOST: usize = 256;
@@ -23,36 +45,31 @@ impl Paper {
     fn made_by(&self, desk: u64) -> usize
         ensures { result ≡ made_by desk (deeds_of self.now) }
     {
-        let mut count: usize = 0;
-        for deed in self.deeds() {
-            if deed.name.desk == desk {
-                count += 1;
-            }
-        }
-        count
+        self.deeds()
+            .iter()
+            .filter(|deed| deed.name.desk == desk)
+            .count()
     }
 
     // The highest number of all deeds.
     fn highest(&self) -> u64
         ensures { result ≡ highest (deeds_of self.now) }
     {
-        let mut highest: u64 = 0;
-        for deed in self.deeds() {
-            highest = highest.max(deed.name.number);
-        }
-        highest
+        self.deeds()
+            .iter()
+            .map(|deed| deed.name.number)
+            .max()
+            .unwrap_or(0)
     }
 
     // A desk's next deed, which does this.
-    fn next_deed(&self, desk: u64, what: What) -> Result<Deed, u64>
+    fn next_deed(&self, desk: u64, what: What) -> Result<Deed, Refusal>
         ensures { Makes (do_it desk (deeds_of self.now) (kind_of what)) (deeds_of self.now) result }
     {
         if self.made_by(desk) >= MOST {
-            return Err(TOO_MANY);
+            return Err(Refusal::TooMany);
         }
-        let Some(number) = self.highest().checked_add(1) else {
-            return Err(NO_NUMBER);
-        };
+        let number = self.highest().checked_add(1).ok_or(Refusal::NoNumber)?;
         let name = Name { number, desk };
         Ok(Deed { name, what })
     }
@@ -64,11 +81,8 @@ impl Paper {
         match command {
             Command::Insert { place: 0, sign } => Some(What::Put { behind: None, sign }),
             Command::Insert { place, sign } => {
-                let name = self.signs.shown_at(place - 1)?;
-                Some(What::Put {
-                    behind: Some(name),
-                    sign,
-                })
+                let behind = Some(self.signs.shown_at(place - 1)?);
+                Some(What::Put { behind, sign })
             }
             Command::Strike { place } => {
                 let target = self.signs.shown_at(place)?;
@@ -79,13 +93,11 @@ impl Paper {
         }
     }
 
-    // The deed that a command makes at a desk that knows this, or the number of its refusal. The paper doesn't hear of it.
-    pub fn deed(&self, desk: u64, command: Command) -> Result<Deed, u64>
+    // The deed that a command makes at a desk that knows this, or why it makes none. The paper doesn't hear of it.
+    pub fn deed(&self, desk: u64, command: Command) -> Result<Deed, Refusal>
         ensures { Answers desk self.now command result }
     {
-        let Some(what) = self.meaning(command) else {
-            return Err(NO_SUCH_PLACE);
-        };
+        let what = self.meaning(command).ok_or(Refusal::NoSuchPlace)?;
         self.next_deed(desk, what)
     }
 }

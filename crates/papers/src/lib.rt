@@ -11,8 +11,7 @@ mod deeds;
 mod paper;
 mod sequence;
 mod words;
-mod written;
 
-pub use commands::{NO_NUMBER, NO_SUCH_PLACE, TOO_MANY};
+pub use commands::Refusal;
 pub use deeds::{Command, Deed, Name, What};
 pub use paper::Paper;

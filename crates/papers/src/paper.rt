@@ -42,12 +42,7 @@ impl Paper {
     pub fn knows(&self, name: Name) -> bool
         ensures { result ≡ has_id (deeds_of self.now) (id_of name) }
     {
-        for deed in self.deeds() {
-            if deed.name.is(name) {
-                return true;
-            }
-        }
-        false
+        self.deeds().iter().any(|deed| deed.name == name)
     }
 
     // Takes in a deed, if none of that name is known; answers whether it was new.

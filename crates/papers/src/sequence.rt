@@ -26,23 +26,17 @@ pub struct Sequence {
 fn place_of(row: &[Sign], name: Name) -> Option<usize>
     ensures { SomeIff result (before name row.now < length row.now) (before name row.now) }
 {
-    for (i, sign) in row.iter().enumerate() {
-        if sign.name.is(name) {
-            return Some(i);
-        }
-    }
-    None
+    row.iter().position(|sign| sign.name == name)
 }
 
 // The place right behind a sign, if it is there, or the first place.
 fn place_behind(row: &[Sign], behind: Option<Name>) -> Option<usize>
     ensures { result ≡ start behind row.now }
 {
-    let Some(target) = behind else {
-        return Some(0);
-    };
-    let place = place_of(row, target)?;
-    Some(place + 1)
+    match behind {
+        Some(target) => place_of(row, target).map(|place| place + 1),
+        None => Some(0),
+    }
 }
 
 // The first place from this one on where no newer sign stands.
@@ -51,12 +45,10 @@ fn past_newer(row: &[Sign], from: usize, name: Name) -> usize
     ensures value { result ≡ past_newer name from row.now }
     ensures bound { result ≤ length row.now }
 {
-    for at in from..row.len() {
-        if !row[at].name.is_newer_than(name) {
-            return at;
-        }
-    }
-    row.len()
+    let newer = row[from..]
+        .iter()
+        .take_while(|sign| sign.name.is_newer_than(name));
+    from + newer.count()
 }
 
 impl Sequence {
@@ -110,29 +102,17 @@ impl Sequence {
     pub fn shown_at(&self, place: u64) -> Option<Name>
         ensures { result ≡ slice_get (names (row_of self.now)) place }
     {
-        let mut before = place;
-        for sign in self.row.as_slice() {
-            if sign.struck {
-                continue;
-            }
-            if before == 0 {
-                return Some(sign.name);
-            }
-            before -= 1;
-        }
-        None
+        let mut shown = self.row.iter().filter(|sign| !sign.struck);
+        shown.nth(place as usize).map(|sign| sign.name)
     }
 
     pub fn text(&self, heap: Global) -> Result<Vec<u64>, AllocError>
         ensures { IfOk result (λ v. v.items ≡ signs (row_of self.now)) }
     {
-        let mut text = Vec::new(heap);
-        for sign in self.row.as_slice() {
-            if sign.struck {
-                continue;
-            }
-            text.push(sign.sign)?;
-        }
-        Ok(text)
+        self.row
+            .iter()
+            .filter(|sign| !sign.struck)
+            .map(|sign| sign.sign)
+            .collect(heap)
     }
 }

@@ -4,6 +4,9 @@
 // name to its last, and whoever takes it in that order knows a sign before anything about it.
 #![tactic(auto)]
 
+mod faults;
+
+pub use faults::Fault;
 use papers::{Command, Deed, Name, Paper, What};
 use std::alloc::{AllocError, Global};
 use std::collections::BTreeMap;
@@ -30,28 +33,22 @@ impl PlainDesk {
         self.known.contains_key(&name)
     }
 
-    // Does a command, or answers the number of its refusal.
-    pub fn does(&mut self, heap: Global, command: Command) -> Result<Result<(), u64>, AllocError> {
-        let paper = self.paper(heap)?;
-        match paper.deed(self.desk, command) {
-            Ok(deed) => {
-                self.known.insert(deed.name, deed.what)?;
-                Ok(Ok(()))
-            }
-            Err(refusal) => Ok(Err(refusal)),
-        }
+    // Does a command, or says why it is refused.
+    pub fn does(&mut self, heap: Global, command: Command) -> Result<(), Fault> {
+        let deed = self.paper(heap)?.deed(self.desk, command)?;
+        self.known.insert(deed.name, deed.what)?;
+        Ok(())
     }
 
     // All that it knows, in the order of names.
     pub fn letter(&self, heap: Global) -> Result<Vec<Deed>, AllocError> {
-        let mut letter = Vec::new(heap);
-        for (name, what) in self.known.iter() {
-            letter.push(Deed {
+        self.known
+            .iter()
+            .map(|(name, what)| Deed {
                 name: *name,
                 what: *what,
-            })?;
-        }
-        Ok(letter)
+            })
+            .collect(heap)
     }
 
     // Takes in a letter; what was known stays as it was.
@@ -66,27 +63,17 @@ impl PlainDesk {
 
     // The newest word under a key: of the words in the order of names, the last.
     pub fn word(&self, key: u64) -> Option<u64> {
-        let mut newest = None;
-        for what in self.known.values() {
-            if let What::Write { key: at, word } = *what {
-                if at == key {
-                    newest = Some(word);
-                }
-            }
-        }
-        newest
+        self.known
+            .values()
+            .filter_map(|what| what.written_under(key))
+            .last()
     }
 
     pub fn tally(&self, key: u64) -> u128 {
-        let mut sum: u128 = 0;
-        for what in self.known.values() {
-            if let What::Add { key: at, amount } = *what {
-                if at == key {
-                    sum = sum.saturating_add(u128::from(amount));
-                }
-            }
-        }
-        sum
+        self.known
+            .values()
+            .map(|what| u128::from(what.added_to(key)))
+            .fold(0, |sum: u128, amount| sum.saturating_add(amount))
     }
 
     pub fn text(&self, heap: Global) -> Result<Vec<u64>, AllocError> {

@@ -1,12 +1,13 @@
-use Rattle.std.proofs.Common.{◌≡◌, not, sym, ap, arith}
-use Rattle.papers.specs.Signs.{before}
-use Rattle.papers.proofs.Leading.{leads_here, leads_more}
+use Rattle.std.proofs.Common.{rules}
+use borrow.Author.Tests.{tests}
+use Rattle.std.proofs.lemmas.Iterator.{YieldsList-from_slice}
+use Rattle.std.proofs.lemmas.Iterator.Search.{position_from_yields_List}
+use Rattle.ops.specs.Doc.{same_id}
+use Rattle.papers.specs.Deeds.{id_of}
+use Rattle.papers.proofs.Over.{SomeIff-position}
 use Rattle.papers.proofs.sequence.place_of.Goals as goal
 
-pub returns-then-is : goal.returns-then-is
-returns-then-is c =
-    let e : c.loop-i.i ≡ before c.args.name c.args.row.now = leads_here _ _ _ _ c.loop-i.invariant _ c.loop-i-test.true (ap not (sym c.if-is.ensures)) in
-    (omega arith, e)
-
-pub loop-i-preserved : goal.loop-i-preserved
-loop-i-preserved c = leads_more _ _ _ _ c.loop-i.invariant _ c.loop-i-test.true (ap not (sym c.if-is.ensures))
+pub returns : goal.returns
+returns c =
+    SomeIff-position (λ s. same_id (id_of s.name) (id_of c.args.name)) c.args.row.now c.position.result
+    (position_from_yields_List _ _ _ c.position.result c.position.ensures.ran (YieldsList-from_slice c.args.row.now cc) (λ x b q k. search (rules, tests)))

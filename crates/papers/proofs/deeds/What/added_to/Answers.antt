@@ -1,11 +1,15 @@
-use Rattle.papers.proofs.Beside.{count-here, count-there, count_other}
+use Rattle.std.proofs.Common.{sym, refl, eq-eqb, ne_eqb, rules}
+use Rattle.ops.specs.Doc.{count_of}
 use Rattle.papers.proofs.deeds.What.added_to.Goals as goal
 
-pub returns-then-at-key : goal.returns-then-at-key
-returns-then-at-key c = count-here _ _ _ _ c.in-Add.is c.if-at-key.true
-
-pub returns-else-at-key : goal.returns-else-at-key
-returns-else-at-key c = count-there _ _ _ _ c.in-Add.is c.if-at-key.false
+pub returns-in-Add : goal.returns-in-Add
+unfolding count_of
+returns-in-Add c = rw (c.in-Add.is, eq-eqb _ _ (sym c.if-at-key.true)) refl
 
 pub returns-in_default : goal.returns-in_default
-returns-in_default c = count_other _ _ c.in_default.not-Add
+unfolding count_of
+returns-in_default c = rw (c.in-Add.is, ne_eqb _ _ (λ g. c.if-at-key.false (sym g))) refl
+
+pub returns-in_default-2 : goal.returns-in_default-2
+unfolding count_of
+returns-in_default-2 c = search rules

@@ -1,11 +1,16 @@
-use Rattle.std.proofs.Common.{ap, ◌∙◌}
+use Rattle.std.proofs.Common.{◌≡◌, max, map, sym, ap, ◌∙◌, rules}
+use Rattle.std.specs.List.{reduce}
+use Rattle.std.specs.Option.{unwrap_or}
+use Rattle.std.proofs.lemmas.Iterator.Adapters.{option_map_id}
+use Rattle.std.proofs.lemmas.Iterator.{YieldsList-from_slice, YieldsList-from_map}
+use Rattle.std.proofs.lemmas.Iterator.Consumers.{max_from_yields_List}
 use Rattle.ops.specs.Doc.{highest}
-use Rattle.papers.proofs.Left.{highest_more, highest_none}
+use Rattle.papers.specs.Deeds.{op_of}
+use Rattle.papers.proofs.Over.{highest-map}
 use Rattle.papers.proofs.paper.Paper.highest.Goals as goal
 
-pub loop-deed-preserved : goal.loop-deed-preserved
-loop-deed-preserved c =
-    highest_more _ _ _ c.loop-deed-test.true _ _ _ c.max-highest.ensures c.loop-deed.invariant
-
 pub returns : goal.returns
-returns c = highest_none _ _ c.loop-deed-test.false _ _ c.loop-deed.invariant ∙ ap highest c.deeds-deed-items.ensures
+returns c =
+    let e : c.max.result ≡ reduce max (map (λ d. d.name.number) c.deeds.result.now) =
+    sym (option_map_id _) ∙ max_from_yields_List _ c.max.result c.max.ensures.ran (YieldsList-from_map _ (λ d. d.name.number) (YieldsList-from_slice c.deeds.result.now cc) c.map.ensures.closure (λ x r q k. search rules)) in
+    c.unwrap_or.ensures ∙ ap (λ o. unwrap_or o 0) e ∙ sym (highest-map op_of _) ∙ ap highest c.deeds.ensures

@@ -1,16 +1,15 @@
-use Rattle.std.proofs.Common.{ap, ◌∙◌}
-use Rattle.ops.specs.Doc.{has_id}
-use Rattle.papers.specs.Deeds.{id_of}
-use Rattle.papers.proofs.Left.{knows_here, knows_more, knows_none}
+use Rattle.std.proofs.Common.{◌≡◌, sym, ap, ◌∙◌, rules}
+use borrow.Author.Tests.{tests}
+use Rattle.std.specs.List.{list_any}
+use Rattle.std.proofs.lemmas.Iterator.{YieldsList-from_slice}
+use Rattle.std.proofs.lemmas.Iterator.Search.{any_from_yields_List}
+use Rattle.ops.specs.Doc.{has_id, same_id}
+use Rattle.papers.specs.Deeds.{id_of, op_of}
+use Rattle.papers.proofs.Over.{any-map}
 use Rattle.papers.proofs.paper.Paper.knows.Goals as goal
 
-pub returns-then-is : goal.returns-then-is
-returns-then-is c =
-    knows_here _ _ _ c.loop-deed-test.true c.args.name _ c.if-is.ensures c.loop-deed.invariant ∙ ap (λ ops. has_id ops (id_of c.args.name)) c.deeds-deed-items.ensures
-
-pub loop-deed-preserved : goal.loop-deed-preserved
-loop-deed-preserved c =
-    knows_more _ _ _ c.loop-deed-test.true c.args.name _ c.if-is.ensures c.loop-deed.invariant
-
 pub returns : goal.returns
-returns c = knows_none _ _ c.loop-deed-test.false c.args.name _ c.loop-deed.invariant ∙ ap (λ ops. has_id ops (id_of c.args.name)) c.deeds-deed-items.ensures
+returns c =
+    let e : c.any.result ≡ list_any (λ d. same_id (id_of d.name) (id_of c.args.name)) c.deeds.result.now =
+    any_from_yields_List _ _ _ c.any.result c.any.ensures.ran (YieldsList-from_slice c.deeds.result.now cc) (λ x b q k. search (rules, tests)) in
+    e ∙ sym (any-map op_of (λ o. same_id o.name (id_of c.args.name)) _) ∙ ap (λ ops. has_id ops (id_of c.args.name)) c.deeds.ensures

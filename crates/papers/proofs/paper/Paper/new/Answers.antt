@@ -1,9 +1,8 @@
-use Rattle.std.proofs.Common.{map, ap}
+use Rattle.std.proofs.Common.{ap}
 use Rattle.ops.specs.Doc.{those}
-use Rattle.papers.specs.Deeds.{op_of}
 use Rattle.papers.specs.Signs.{signs}
 use Rattle.papers.proofs.paper.Paper.new.Goals as goal
 
-pub returns : goal.returns
+pub returns-clause-text : goal.returns-clause-text
 unfolding those
-returns c = record { deeds = ap (map op_of) c.new.ensures.items; text = ap signs c.new-2.ensures }
+returns-clause-text c = ap signs c.new-2.ensures

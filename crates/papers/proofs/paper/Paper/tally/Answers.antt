@@ -1,11 +1,11 @@
-use Rattle.std.proofs.Common.{ap, ◌∙◌, arith}
-use Rattle.ops.specs.Doc.{count_at}
-use Rattle.papers.proofs.Left.{tally_more, tally_none}
+use Rattle.std.proofs.Common.{◌≡◌, sym, ap, ◌∙◌, rules}
+use Rattle.std.specs.List.{sum_by}
+use Rattle.ops.specs.Doc.{count_of, count_at}
+use Rattle.papers.specs.Deeds.{kind_of, op_of}
+use Rattle.papers.proofs.Over.{added_up-map}
 use Rattle.papers.proofs.paper.Paper.tally.Goals as goal
 
-pub loop-deed-preserved : goal.loop-deed-preserved
-loop-deed-preserved c =
-    (tally_more _ _ _ c.loop-deed-test.true c.args.key _ _ _ (c.from-sum.ensures ∙ c.added_to.ensures) c.loop-deed.invariant.0, omega (arith, c.from-sum.ensures, c.added_to.type_inv))
-
 pub returns : goal.returns
-returns c = tally_none _ _ c.loop-deed-test.false _ _ _ c.loop-deed.invariant.0 ∙ ap (λ ops. count_at ops c.args.key) c.deeds-deed-items.ensures
+returns c =
+    let e : c.sum.result ≡ sum_by (λ d. count_of c.args.key (kind_of d.what)) c.deeds.result.now = search rules in
+    e ∙ sym (added_up-map op_of (λ o. count_of c.args.key o.kind) _) ∙ ap (λ ops. count_at ops c.args.key) c.deeds.ensures

@@ -1,15 +1,14 @@
-use Rattle.std.proofs.Common.{◌+◌, ◌++◌, drop, ap, ◌∙◌}
-use Rattle.papers.specs.Signs.{signs}
-use Rattle.papers.proofs.Rows.{text_struck, text-here, text_none}
+use Rattle.std.proofs.Common.{◌≡◌, map, not, rules}
+use borrow.Author.Tests.{tests}
+use Rattle.std.specs.List.{filter}
+use Rattle.std.specs.Result.{IfOk}
+use Rattle.std.proofs.lemmas.Iterator.{YieldsList-from_slice, YieldsList-from_map, items_from_collect}
+use Rattle.std.proofs.lemmas.Iterator.Consumers.{YieldsList-from_filter, YieldsList-at}
+use Rattle.papers.proofs.Over.{those-filter}
 use Rattle.papers.proofs.sequence.Sequence.text.Goals as goal
 
-pub loop-sign-preserved-then-sign : goal.loop-sign-preserved-then-sign
-loop-sign-preserved-then-sign c = text_struck _ _ _ c.loop-sign-test.true c.if-sign.true _ _ c.loop-sign.invariant
-
-pub loop-sign-preserved : goal.loop-sign-preserved
-loop-sign-preserved c =
-    ap (λ xs. xs ++ signs (drop (c.loop-sign.sign-index + 1) c.as_slice-sign-items.result.now)) c.in_ok-push.ensures.items
-    ∙ text-here _ _ _ c.loop-sign-test.true c.if-sign.false _ _ c.loop-sign.invariant
-
 pub returns : goal.returns
-returns c = text_none _ _ c.loop-sign-test.false _ _ c.loop-sign.invariant ∙ ap signs c.as_slice-sign-items.ensures.value
+returns c =
+    let e : IfOk c.collect.result (λ v. v.items ≡ map (λ s. s.sign) (filter (λ s. not s.struck) c.deref.result.now)) =
+    items_from_collect _ c.collect.ensures.ran (YieldsList-from_map _ (λ s. s.sign) (YieldsList-at c.map.ensures.source (YieldsList-from_filter _ (λ s. not s.struck) (YieldsList-from_slice c.deref.result.now cc) c.filter.ensures.closure (λ x b q k. search (rules, tests)))) c.map.ensures.closure (λ x r q k. search rules)) in
+    simp (those-filter, ← c.deref.ensures.value) e

@@ -1,5 +1,5 @@
 -- What the machine does when it doesn't refuse, as the code does it: the memory after, and what is told.
-use Rattle.std.proofs.Common.{◌≡◌, ℕ, suc, ◌+◌, ◌<◌, ◌≤◌, Bool, true, false, ◌&&◌, ltb, leb, List, [], ◌∷◌, ◌++◌, length, get_or, take, drop, set, Ok, Err, Option, Result, sym, refl, ap, ◌∙◌, subst, ap₂, arith, length-append}
+use Rattle.std.proofs.Common.{◌≡◌, ℕ, suc, ◌+◌, ◌<◌, ◌≤◌, Bool, true, false, ◌&&◌, ltb, leb, List, [], ◌∷◌, ◌++◌, length, min, get_or, take, drop, set, Ok, Err, Option, Result, sym, refl, ap, ◌∙◌, subst, ap₂, arith, length-append, get_or-set_other}
 use Rattle.std.proofs.lemmas.List.{take_at}
 use Rattle.std.specs.Option.{option_to_list}
 use Rattle.std.proofs.lemmas.Bool.{eq-eqb, ne_eqb, lt-ltb, le-leb, lt-leb, ltb-true, and_parts, and_from}
@@ -50,6 +50,14 @@ module _ (m : List ℕ) (d made len high : ℕ) (e : made ≡ low m (made_cell d
 
   pub no_room-number : (high + 1 < 4294967296 → ⊥) → has_room m d ≡ true → ⊥
   no_room-number h t = h (room_parts t).2
+
+-- room that is there is there once the memory is idle, too
+pub room_left : (m : List ℕ) (d : ℕ) → has_room m d ≡ true → kept (idle m) < 8192
+unfolding kept
+room_left m d t =
+    let h = (room_parts m d (low m (made_cell d)) (kept m) (highest_up_to 32 m) refl refl refl t).1 in
+    let e = get_or-set_other m 1 3 0 0 (omega arith) in
+    subst (λ n. min n 8192 < 8192) (sym e) h
 
 pub new_id : (n high : ℕ) (m : List ℕ) (d : ℕ) → high ≡ highest_up_to 32 m → n ≡ high + 1 → id n d ≡ id (suc (highest_up_to 32 m)) d
 new_id n high m d e f = let g : n ≡ suc (highest_up_to 32 m) = omega arith in λ i. id (g i) d

@@ -37,7 +37,7 @@ fn peer_of(desk: Desk, number: u64) -> Result<Desk, Refusal>
     ensures { Passes desk_of ((number < 32) × (number ≢ desk_of desk)) number Refusal.Malformed result }
 {
     let peer = Desk::new(number).ok_or(Refusal::Malformed)?;
-    if peer.number == desk.number {
+    if peer == desk {
         return Err(Refusal::Malformed);
     }
     Ok(peer)
@@ -93,7 +93,7 @@ fn perform(memory: &mut Memory, desk: Desk, kind: Kind) -> Result<(), Refusal>
 {
     let id = new_id(memory, desk)?;
     memory.cells[PENDING] = 0;
-    memory.append(Op { id, kind });
+    memory.append(Op { id, kind }).unwrap();
     Ok(())
 }
 

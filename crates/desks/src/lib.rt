@@ -25,7 +25,7 @@ pub const MOST_BYTES: usize = 4096;
 
 pub const MOST_SHOWN: usize = 8192;
 
-// The kinds of what a machine is told.
+// The kinds of what a machine is told. They are numbers here and nowhere above: a step is called from outside, where there are only numbers and slices.
 const OPEN: u64 = 0;
 
 const WRITE: u64 = 3;
@@ -40,7 +40,7 @@ const READ: u64 = 8;
 
 const GO_ON: u64 = 9;
 
-#[derive(Clone, Copy)]
+#[derive(Clone, Copy, PartialEq, Eq, Debug)]
 pub enum Reply {
     // The place.
     At(u64),
@@ -49,7 +49,7 @@ pub enum Reply {
     Refused(u64),
 }
 
-#[derive(Clone, Copy)]
+#[derive(Clone, Copy, PartialEq, Eq, Debug)]
 pub enum Told {
     // So many numbers; so many bytes.
     Shows(u64),
@@ -75,7 +75,7 @@ pub fn newest(names: &[u64]) -> Reply
     if names.len() % 2 != 0 {
         return Reply::Refused(1);
     }
-    if names.len() == 0 {
+    if names.is_empty() {
         return Reply::None;
     }
     let mut best = 0;

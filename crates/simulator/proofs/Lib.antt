@@ -3,3 +3,4 @@ pub mod Passing
 pub mod UnderWay
 pub mod Playing
 pub mod Looking
+pub mod Twos

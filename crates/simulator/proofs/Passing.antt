@@ -80,6 +80,10 @@ module _ (xs : List Replica) (i j : ℕ) (hi : i < length xs) (hj : j < length x
         short = omega arith;
       }
 
+-- from and to by what they are
+pub turned : (ms ms₁ : List (List ℕ)) (i j k l : ℕ) (well : Bool) (n : ℕ) → k ≡ j → l ≡ i → Passed ms k l well n ms₁ → Passed ms j i well n ms₁
+turned ms ms₁ i j k l well n e f h = subst (λ x. Passed ms j x well n ms₁) f (subst (λ x. Passed ms x l well n ms₁) e h)
+
 -- A LETTER AND ITS ANSWER
 pub paired : (ms ms₁ ms₂ : List (List ℕ)) (i j : ℕ) (t u : Bool) (n k : ℕ) → i < length ms → j < length ms → (i ≡ j → ⊥) → Passed ms i j t n ms₁ → Passed ms₁ j i u k ms₂ → Paired ms i j (t && u) (n + k) ms₂
 unfolding exchange

@@ -3,6 +3,7 @@ use Rattle.std.proofs.Common.{◌≡◌, ℕ, ◌+◌, ◌<◌, ◌≤◌, Bool,
 use mathlib.Core.Logic.{∥∥₁_map}
 use Rattle.std.proofs.lemmas.List.{map-set, map_push, get_or-map, length-map, append-nil}
 use Rattle.std.proofs.lemmas.Bool.{lt-ltb, le-ltb, both_ways}
+use Rattle.std.specs.Result.{IsErrAnd}
 use Rattle.std.specs.declared.alloc.Global.{Global}
 use Rattle.std.specs.declared.alloc.AllocError.{AllocError}
 use Rattle.ops.specs.Doc.{pick, each, Command}
@@ -11,7 +12,6 @@ use Rattle.desks.specs.Promise.{up_to, opened}
 use Rattle.desks.specs.Entry.{own}
 use Rattle.network.specs.Room.{Note, note, Room, room, Moved, moved, note_at, can, does, moves, meeting, first_room}
 use Rattle.network.specs.Rooms.{tale, RoomsRight}
-use Rattle.network.proofs.Whole.{two-desks}
 use Rattle.network.proofs.RoomStands.{moves-can, moves_cannot}
 use Rattle.network.proofs.RoomsRight.{tale-moves, rooms_right}
 use Rattle.replicas.proofs.Stepping.{Back, is_back}
@@ -53,13 +53,14 @@ pub cannot_come : (r : Room) (k : ℕ) → length r.notes ≤ k → Plays r (com
 unfolding can
 cannot_come r k h = cannot r (comes k) (le-ltb k (length r.notes) h)
 
-pub cannot_make : (r : Room) (i j : ℕ) → false ≡ ((ltb i 32 && ltb j 32) && not (eqb i j)) → Plays r (makes i j) (Err Malformed) r
+pub cannot_make : (r : Room) (i j : ℕ) (k : Refusal) → k ≡ Malformed → false ≡ ((ltb i 32 && ltb j 32) && not (eqb i j)) → Plays r (makes i j) (Err k) r
 unfolding can
-cannot_make r i j e = cannot r (makes i j) (sym e)
+cannot_make r i j k z e = subst (λ k. Plays r (makes i j) (Err k) r) (sym z) (cannot r (makes i j) (sym e))
 
-pub cannot_meet : (r : Room) (i j : ℕ) → false ≡ ((ltb i 32 && ltb j 32) && not (eqb i j)) → Plays r (meet i j) (Err Malformed) r
+pub cannot_meet : (r : Room) (i j : ℕ) (x : Result Answer Refusal) {k : Refusal} → IsErrAnd x (λ y. y ≡ k) → k ≡ Malformed → false ≡ ((ltb i 32 && ltb j 32) && not (eqb i j)) → Plays r (meet i j) x r
 unfolding can
-cannot_meet r i j e = cannot r (meet i j) (sym e)
+cannot_meet r i j (Ok a) h z e = absurd h
+cannot_meet r i j (Err k) h z e = subst (λ k. Plays r (meet i j) (Err k) r) (sym (h ∙ z)) (cannot r (meet i j) (sym e))
 
 module _ (xs : List Replica) (ns : List Note) where
   abbrev ms : List (List ℕ)
@@ -224,10 +225,6 @@ module _ (ms ms₁ : List (List ℕ)) (ns : List Note) (i j n size : ℕ) (well 
 pub none_played : (r r₁ : Room) (it : Item) (x : Result (Result Answer Refusal) AllocError) → is_err x ≡ true → r₁ ≡ r → Played r it x r₁
 none_played r r₁ it (Ok a) h e = absurd (both_ways false refl h)
 none_played r r₁ it (Err z) h e = e
-
--- TWO DESKS that were found to be two
-pub both_near : (i j : ℕ) → true ≡ ((ltb i 32 && ltb j 32) && not (eqb i j)) → (i < 32) × (j < 32) × (i ≡ j → ⊥)
-both_near i j e = two-desks i j (sym e)
 
 -- as many places as there are desks
 pub within : (desks : Vec Replica Global) (i : ℕ) → vec_len desks ≡ 32 → i < 32 → i < length (vec_items desks)

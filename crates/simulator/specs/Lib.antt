@@ -2,3 +2,4 @@ pub mod Rooms
 pub mod Meetings
 pub mod Play
 pub mod Looks
+pub mod Two

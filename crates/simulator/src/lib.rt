@@ -10,6 +10,7 @@ mod looks;
 mod meetings;
 mod play;
 mod room;
+mod two;
 
 pub use letter::Letter;
 pub use room::{Answer, Command, Item, Room};

@@ -1,8 +1,9 @@
 // Two desks that meet: one makes a letter, the other reads it and makes one, which the first reads; and so on until both know the same.
-ghost use Rattle.std.specs.Prelude.{◌≡◌, ◌<◌, ◌≤◌, length, vec_len, ◌≢◌};
+ghost use Rattle.std.specs.Prelude.{◌≡◌, ◌≤◌, length, vec_len};
 ghost use Rattle.simulator.specs.Rooms.{memories};
 ghost use Rattle.simulator.specs.Meetings.{Passed, Paired, Met};
 
+use crate::two::Two;
 use desks::MOST_BYTES;
 use replicas::Replica;
 
@@ -24,20 +25,23 @@ struct Mail {
     fair: bool,
 }
 
-// A letter from one desk to another.
-fn pass(desks: &mut Vec<Replica>, mail: &mut [u8], from: usize, to: usize) -> Mail
-    requires { (from < vec_len desks.old) × ((to < vec_len desks.old) × (((from ≢ to)) × (4096 ≤ length mail.old))) }
-    ensures passed { Passed (memories desks.old) from to result.fair result.bytes (memories desks.new) }
-    ensures count { vec_len desks.new ≡ vec_len desks.old }
+// A letter from one desk to the other.
+fn pass(desks: &mut Vec<Replica>, mail: &mut [u8], two: Two) -> Mail
+    requires desks { vec_len desks.old ≡ 32 }
+    requires mail { 4096 ≤ length mail.old }
+    ensures passed { Passed (memories desks.old) two.one two.other result.fair result.bytes (memories desks.new) }
+    ensures count { vec_len desks.new ≡ 32 }
 {
-    let Ok(size) = desks[from].letter(to as u64, mail) else {
-        let _none = desks[to].hear(from as u64, &[]);
+    let Ok(size) = desks[two.one].letter(two.other as u64, mail) else {
+        let _none = desks[two.other].hear(two.one as u64, &[]);
         return Mail {
             bytes: 0,
             fair: false,
         };
     };
-    let fair = desks[to].hear(from as u64, &mail[0..size]).is_ok();
+    let fair = desks[two.other]
+        .hear(two.one as u64, &mail[0..size])
+        .is_ok();
     Mail {
         bytes: size as u64,
         fair,
@@ -45,14 +49,14 @@ fn pass(desks: &mut Vec<Replica>, mail: &mut [u8], from: usize, to: usize) -> Ma
 }
 
 // A letter and its answer.
-fn pair(desks: &mut Vec<Replica>, one: usize, other: usize) -> Mail
-    requires { (one < vec_len desks.old) × ((other < vec_len desks.old) × ((one ≢ other))) }
-    ensures paired { Paired (memories desks.old) one other result.fair result.bytes (memories desks.new) }
-    ensures count { vec_len desks.new ≡ vec_len desks.old }
+fn pair(desks: &mut Vec<Replica>, two: Two) -> Mail
+    requires { vec_len desks.old ≡ 32 }
+    ensures paired { Paired (memories desks.old) two.one two.other result.fair result.bytes (memories desks.new) }
+    ensures count { vec_len desks.new ≡ 32 }
 {
     let mut mail = [0; MOST_BYTES];
-    let there = pass(desks, &mut mail, one, other);
-    let back = pass(desks, &mut mail, other, one);
+    let there = pass(desks, &mut mail, two);
+    let back = pass(desks, &mut mail, two.turned());
     Mail {
         bytes: there.bytes + back.bytes,
         fair: there.fair & back.fair,
@@ -60,23 +64,23 @@ fn pair(desks: &mut Vec<Replica>, one: usize, other: usize) -> Mail
 }
 
 // The whole meeting.
-pub fn meet(desks: &mut Vec<Replica>, one: usize, other: usize) -> Meeting
-    requires { (one < vec_len desks.old) × ((other < vec_len desks.old) × ((one ≢ other))) }
-    ensures met { Met (memories desks.old) one other result.pairs result.fair result.bytes (memories desks.new) }
-    ensures count { vec_len desks.new ≡ vec_len desks.old }
+pub fn meet(desks: &mut Vec<Replica>, two: Two) -> Meeting
+    requires { vec_len desks.old ≡ 32 }
+    ensures met { Met (memories desks.old) two.one two.other result.pairs result.fair result.bytes (memories desks.new) }
+    ensures count { vec_len desks.new ≡ 32 }
 {
     let mut fair = true;
     let mut bytes = 0;
-    let most = PAIRS_MORE + desks[one].known() + desks[other].known();
+    let most = PAIRS_MORE + desks[two.one].known() + desks[two.other].known();
     for pairs in 0..most {
-        if desks[one].is_level_with(&desks[other]) {
+        if desks[two.one].is_level_with(&desks[two.other]) {
             return Meeting {
                 pairs: pairs as u64,
                 bytes,
                 fair,
             };
         }
-        let mail = pair(desks, one, other);
+        let mail = pair(desks, two);
         bytes += mail.bytes;
         fair = fair & mail.fair;
     }

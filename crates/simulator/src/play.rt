@@ -8,24 +8,12 @@ ghost use Rattle.simulator.specs.Play.{view, said_by, item_of, Plain, Answers, P
 use crate::letter::Letter;
 use crate::meetings;
 use crate::room::{Answer, Command, Item, Room};
+use crate::two::Two;
 use desks::{MOST_BYTES, Refusal};
 use replicas::Replica;
 use std::alloc::{AllocError, Global};
 
 const DESKS: u64 = ops::layout::DESKS as u64;
-
-// Whether these are two different desks.
-fn are_two(one: u64, other: u64) -> bool
-    ensures { result ≡ ((nat_lt one 32 && nat_lt other 32) && not (one == other)) }
-{
-    if one >= DESKS {
-        return false;
-    }
-    if other >= DESKS {
-        return false;
-    }
-    one != other
-}
 
 // An answer with nothing shown.
 fn plain(outcome: Result<(), Refusal>) -> Result<Answer, Refusal>
@@ -72,21 +60,30 @@ impl Room {
     }
 
     // A desk makes a letter for another, which is kept. Room for it is found first, so that nothing is changed where there is none.
-    fn make(&mut self, heap: Global, from: u64, to: u64) -> Result<Result<Answer, Refusal>, AllocError>
-        ensures { Played (view self.old) (makes from to) result (view self.new) }
+    fn send(&mut self, heap: Global, two: Two) -> Result<Result<Answer, Refusal>, AllocError>
+        ensures { Played (view self.old) (makes two.one two.other) result (view self.new) }
     {
-        if !are_two(from, to) {
-            return Ok(Err(Refusal::Malformed));
-        }
+        let from = two.one as u64;
+        let to = two.other as u64;
         let mut bytes = vec![in heap; 0; MOST_BYTES]?;
         self.letters.reserve(1)?;
-        let size = match self.desks[from as usize].letter(to, bytes.as_mut_slice()) {
+        let size = match self.desks[two.one].letter(to, bytes.as_mut_slice()) {
             Ok(size) => size,
             Err(refusal) => return Ok(Err(refusal)),
         };
         bytes.truncate(size);
         self.letters.push_reserved(Letter { from, to, bytes });
         Ok(Ok(Answer::Done))
+    }
+
+    // The same of two numbers, if they are two desks'.
+    fn make(&mut self, heap: Global, from: u64, to: u64) -> Result<Result<Answer, Refusal>, AllocError>
+        ensures { Played (view self.old) (makes from to) result (view self.new) }
+    {
+        match Two::new(from, to) {
+            Ok(two) => self.send(heap, two),
+            Err(refusal) => Ok(Err(refusal)),
+        }
     }
 
     // A letter comes to the desk that it is for. It stays, and may come again.
@@ -104,10 +101,8 @@ impl Room {
     fn meet(&mut self, one: u64, other: u64) -> Result<Answer, Refusal>
         ensures { Plays (view self.old) (meets one other) result (view self.new) }
     {
-        if !are_two(one, other) {
-            return Err(Refusal::Malformed);
-        }
-        let meeting = meetings::meet(&mut self.desks, one as usize, other as usize);
+        let two = Two::new(one, other)?;
+        let meeting = meetings::meet(&mut self.desks, two);
         if meeting.fair {
             Ok(Answer::Met {
                 pairs: meeting.pairs,

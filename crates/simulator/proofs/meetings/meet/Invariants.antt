@@ -5,5 +5,5 @@ use Rattle.simulator.proofs.meetings.meet.Given as goal
 
 abbrev pub invariant-loop-pairs : goal.invariant-loop-pairs
 invariant-loop-pairs l =
-    (vec_len l.desks ≡ vec_len l.initial.desks)
-    × UnderWay (memories l.initial.desks) l.one l.other l.pairs l.fair l.bytes (memories l.desks)
+    (vec_len l.desks ≡ 32)
+    × UnderWay (memories l.initial.desks) l.two.one l.two.other l.pairs l.fair l.bytes (memories l.desks)

@@ -1,6 +1,13 @@
 -- Whether records are well formed, test by test and record by record.
-use Rattle.std.proofs.Common.{◌≡◌, ℕ, zero, suc, ◌+◌, ◌*◌, ◌<◌, ◌≤◌, true, false, ltb, List, get_or, sym, ap, ◌∙◌, inl, inr, add-one, arith, w8, Fits}
-use Rattle.std.proofs.lemmas.Bool.{lt-ltb, le-ltb, and_left, and_right, cases_lt}
+use Rattle.std.proofs.Common.{◌≡◌, ℕ, zero, suc, Bool, ◌&&◌, ◌+◌, ◌*◌, ◌<◌, ◌≤◌, true, false, ltb, List, get_or, sym, refl, ap, ◌∙◌, arith, w8, Fits}
+use Rattle.std.proofs.lemmas.Bool.{lt-ltb, le-ltb}
+use Rattle.std.specs.Prelude.{Result}
+use Rattle.std.specs.Result.{is_ok}
+use Rattle.ops.specs.declared.types.Tag.{Tag}
+use Rattle.ops.specs.declared.types.UnknownTag.{UnknownTag}
+use Rattle.ops.specs.Values.{ReadsTag}
+use Rattle.ops.proofs.Slots.{tag_known}
+use Rattle.std.specs.List.{list_all, range_with_len}
 use Rattle.messages.specs.Bytes.{byte}
 use Rattle.messages.specs.Records.{is_record, are_records}
 
@@ -9,33 +16,42 @@ pub as_byte : (bs : List ℕ) → ((i : ℕ) → Fits w8 (get_or bs i 0)) → (i
 as_byte bs typed i = omega (arith, typed i)
 
 module _ (bs : List ℕ) (p : ℕ) (typed : (i : ℕ) → Fits w8 (get_or bs i 0)) where
-  pub other_kind : 4 ≤ get_or bs (p + 5) 0 → false ≡ is_record bs p
+  pub far_desk : 32 ≤ get_or bs (p + 4) 0 → false ≡ is_record bs p
   unfolding is_record
-  other_kind h =
-      let e = as_byte bs typed (p + 5) in
-      sym (and_right (ltb (byte bs (p + 4)) 32) _ (and_left (ltb (byte bs (p + 5)) 4) _ (le-ltb (byte bs (p + 5)) 4 (omega arith))))
+  far_desk h = let e = as_byte bs typed (p + 4) in rw (le-ltb (byte bs (p + 4)) 32 (omega arith)) refl
 
-  pub far_desk : 32 ≤ get_or bs (p + 4) 0 → ltb (get_or bs (p + 4) 0) 32 ≡ is_record bs p
+  pub other_tag : get_or bs (p + 4) 0 < 32 → ltb (get_or bs (p + 5) 0) 4 ≡ false → false ≡ is_record bs p
   unfolding is_record
-  far_desk h = let e = as_byte bs typed (p + 4) in le-ltb (get_or bs (p + 4) 0) 32 h ∙ rw (le-ltb (byte bs (p + 4)) 32 (omega arith))
+  other_tag h t = let e = as_byte bs typed (p + 4) in rw (lt-ltb (byte bs (p + 4)) 32 (omega arith), ← (as_byte bs typed (p + 5)), t) refl
 
-  pub near_desk : get_or bs (p + 5) 0 < 4 → get_or bs (p + 4) 0 < 32 → ltb (get_or bs (p + 6) 0) 32 ≡ is_record bs p
+  pub near_desk : get_or bs (p + 4) 0 < 32 → ltb (get_or bs (p + 5) 0) 4 ≡ true → ltb (get_or bs (p + 6) 0) 32 ≡ is_record bs p
   unfolding is_record
-  near_desk k h =
-      let d = as_byte bs typed (p + 4) in
-      let e = as_byte bs typed (p + 5) in
-      ap (λ (b : ℕ). ltb b 32) (as_byte bs typed (p + 6)) ∙ rw (lt-ltb (byte bs (p + 4)) 32 (omega arith), lt-ltb (byte bs (p + 5)) 4 (omega arith))
+  near_desk h t =
+      let e = as_byte bs typed (p + 4) in
+      rw (lt-ltb (byte bs (p + 4)) 32 (omega arith), ← (as_byte bs typed (p + 5)), t, ← (as_byte bs typed (p + 6))) refl
 
--- one record further
-pub records_on : (bs : List ℕ) (k : ℕ) → are_records k bs ≡ true → true ≡ is_record bs (132 + k * 16) → are_records (k + 1) bs ≡ true
+-- whether a tag is read, as the code tests it
+pub tag_tested : (n m : ℕ) (r : Result Tag UnknownTag) (v o t : Bool) → n ≡ m → ReadsTag n r → o ≡ is_ok r → v ≡ o → v ≡ t → ltb m 4 ≡ t
+tag_tested n m r v o t e h f g k = ap (λ i. ltb i 4) (sym e) ∙ sym (tag_known n r h) ∙ sym f ∙ sym g ∙ k
+
+-- all records, as a chain over their places tests them
+and_assoc : (a b c : Bool) → a && (b && c) ≡ (a && b) && c
+and_assoc true b c = refl
+and_assoc false b c = refl
+
+and_true : (a : Bool) → a && true ≡ a
+and_true true = refl
+and_true false = refl
+
+all_more : (f : ℕ → Bool) (a n : ℕ) → list_all f (range_with_len a (suc n)) ≡ list_all f (range_with_len a n) && f (a + n)
+all_more f a zero = and_true (f a) ∙ ap f (omega arith)
+all_more f a (suc n) =
+    let e : a + 1 + n ≡ a + suc n = omega arith in
+    ap (λ b. f a && b) (all_more f (a + 1) n) ∙ rw e (and_assoc (f a) (list_all f (range_with_len (a + 1) n)) (f (a + suc n)))
+
+pub all_records : (bs : List ℕ) (n : ℕ) → list_all (λ k. is_record bs (132 + k * 16)) (range_with_len 0 n) ≡ are_records n bs
 unfolding are_records
-records_on bs k a b = rw (add-one, a) (sym b)
-
-pub records_not : (bs : List ℕ) (k n : ℕ) → false ≡ is_record bs (132 + k * 16) → k < n → false ≡ are_records n bs
-unfolding are_records
-records_not bs k zero b h = absurd (omega arith)
-records_not bs k (suc n) b h =
-    elim (cases_lt k n) [
-      | inl l ↦ sym (and_left (are_records n bs) (is_record bs (132 + n * 16)) (sym (records_not bs k n b l)))
-      | inr l ↦ let e : k ≡ n = omega arith in sym (and_right (are_records n bs) (is_record bs (132 + n * 16)) (ap (λ (i : ℕ). is_record bs (132 + i * 16)) (sym e) ∙ sym b))
-    ]
+all_records bs zero = refl
+all_records bs (suc n) =
+    let e : 0 + n ≡ n = omega arith in
+    all_more (λ k. is_record bs (132 + k * 16)) 0 n ∙ rw (e, all_records bs n) refl

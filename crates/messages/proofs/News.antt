@@ -1,79 +1,59 @@
 -- What is news in a log, one operation further, until a letter is full.
-use Rattle.std.proofs.Common.{◌≡◌, ℕ, zero, suc, ◌+◌, ◌-◌, ◌*◌, ◌<◌, ◌≤◌, Bool, true, false, ltb, List, [], ◌∷◌, ◌++◌, length, take, sym, refl, ap, ◌∙◌, append_assoc, append-nil, add-zero, arith, length-append, length-take, take_all}
-use lib.Seq.{paste, take-append-le}
+use Rattle.std.proofs.Common.{◌≡◌, ℕ, ◌+◌, ◌*◌, ◌<◌, ◌≤◌, Bool, cond, get_or, true, false, ltb, List, [], ◌∷◌, ◌++◌, length, take, sym, refl, ap, ◌∙◌, append_assoc, append-nil, arith, length-append, length-take, take_all}
+use lib.Seq.{paste}
 use Rattle.ops.specs.Doc as doc
-use Rattle.ops.specs.Doc.{flat, those}
-use Rattle.ops.specs.Log.{op_at, firsts, kept, ops_of}
+use Rattle.ops.specs.Doc.{pick, flat, those}
+use Rattle.std.specs.List.{filter}
+use Rattle.std.specs.Fn.{CalledAt}
+use Rattle.std.specs.Iterator.{YieldsFirstBy}
+use Rattle.std.specs.Iterator.Adapters.{filter_source, filter_callee, filter_steps, take_source, take_count, take_steps}
+use Rattle.std.specs.declared.iter.Filter.{Filter}
+use Rattle.std.specs.declared.iter.Take.{Take}
+use Rattle.std.proofs.lemmas.Iterator.{YieldsList, YieldsList-from_take}
+use Rattle.std.proofs.lemmas.Iterator.Consumers.{YieldsList-at, YieldsList-from_first, YieldsList-from_filter}
+use denote.Param.Members.{Mut}
+use denote.Ref.{Bor}
+use Rattle.ops.specs.declared.types.Op.{Op}
+use Rattle.ops.specs.declared.operations.Operations.{Operations}
+use Rattle.ops.specs.Operations.{ops_left}
+use Rattle.ops.specs.Values.{op_of}
+use Rattle.std.proofs.lemmas.List.{take_more}
+use Rattle.ops.specs.Log.{ops_of}
 use Rattle.ops.specs.Version.{newer_than}
-use Rattle.ops.proofs.Members.{those-append}
-use Rattle.ops.proofs.Scans.{those_more, firsts_more, firsts-all}
 use Rattle.messages.specs.Records.{record_bytes}
 use Rattle.messages.specs.Letter.{most_records, heard, news, filled}
 use Rattle.messages.proofs.Coding.{length_record}
 use Rattle.messages.proofs.Fills.{length_front, fill_none, fill_more}
 
--- at most so many of those that pass a test
-module _ {A : Type 0} (most : ℕ) (f : A → Bool) where
-  some_other : (xs : List A) (o : A) → f o ≡ false → take most (those f (xs ++ o ∷ [])) ≡ take most (those f xs)
-  some_other xs o h = rw (those_more f xs o, h, append-nil)
-
-  some_one : (xs : List A) (o : A) → length (take most (those f xs)) < most → f o ≡ true → take most (those f (xs ++ o ∷ [])) ≡ take most (those f xs) ++ o ∷ []
-  some_one xs o h t =
-      let l : length (those f xs) < most = omega (arith, length-take most (those f xs)) in
-      let a : take most (those f xs) ≡ those f xs = take_all most (those f xs) (omega arith) in
-      let b : take most (those f xs ++ o ∷ []) ≡ those f xs ++ o ∷ [] = take_all most (those f xs ++ o ∷ []) (simp length-append (omega arith)) in
-      rw (those_more f xs o, t, b, a)
-
-  -- once there are so many, no more are taken
-  some_full : (xs ys : List A) → most ≤ length (take most (those f xs)) → take most (those f (xs ++ ys)) ≡ take most (those f xs)
-  some_full xs ys h =
-      let l : most ≤ length (those f xs) = omega (arith, length-take most (those f xs)) in
-      rw (those-append f xs ys) (take-append-le most (those f xs) (those f ys) l)
-
-firsts_split : (j k : ℕ) (m : List ℕ) → (ys : List doc.Op) × (firsts (k + j) m ≡ firsts k m ++ ys)
-firsts_split zero k m = ([], ap (λ (i : ℕ). firsts i m) (add-zero k) ∙ sym (append-nil (firsts k m)))
-firsts_split (suc j) k m =
-    let r = firsts_split j k m in
-    let e : k + suc j ≡ (k + j) + 1 = omega arith in (
-      r.0 ++ op_at m (k + j) ∷ [],
-      ap (λ (i : ℕ). firsts i m) e ∙ firsts_more (k + j) m ∙ ap (λ (xs : List doc.Op). xs ++ op_at m (k + j) ∷ []) r.1 ∙ append_assoc (firsts k m) r.0 (op_at m (k + j) ∷ []),
-    )
-
--- the news for a peer among the first so many operations
-unfoldable pub news_in : ℕ → List ℕ → ℕ → List doc.Op
-news_in k m p = take most_records (newer_than (heard m p) (firsts k m))
-
 abbrev pub is_new : List ℕ → ℕ → doc.Op → Bool
 is_new m p o = ltb (heard m p o.name.who) o.name.n
 
-news_none : (m : List ℕ) (p : ℕ) → news_in 0 m p ≡ []
-unfolding news_in newer_than firsts those
-news_none m p = refl
+-- a filter is the paper's
+filter_those : {A : Type 0} (f : A → Bool) (xs : List A) → filter f xs ≡ those f xs
+unfolding those
+filter_those f [] = refl
+filter_those {A} f (x ∷ xs) = go (f x) (filter_those f xs)
+  where
+    go : (t : Bool) → filter f xs ≡ those f xs → cond t (x ∷ filter f xs) (filter f xs) ≡ pick t (x ∷ those f xs) (those f xs)
+    go true h = ap (λ ys. x ∷ ys) h
+    go false h = h
 
-news-all : (k : ℕ) (m : List ℕ) (p : ℕ) → k ≤ kept m → (k < kept m → ⊥) → news_in k m p ≡ news m p
-unfolding news_in news
-news-all k m p l n = ap (λ (os : List doc.Op). take most_records (newer_than (heard m p) os)) (firsts-all m k l n)
-
-news-full : (k : ℕ) (m : List ℕ) (p : ℕ) → k ≤ kept m → most_records ≤ length (news_in k m p) → news_in k m p ≡ news m p
-unfolding news_in newer_than news ops_of
-news-full k m p h l =
-    let r = firsts_split (kept m - k) k m in
-    let e : kept m ≡ k + (kept m - k) = omega arith in
-    sym (ap (λ (i : ℕ). take most_records (those (is_new m p) (firsts i m))) e
-    ∙ ap (λ (xs : List doc.Op). take most_records (those (is_new m p) xs)) r.1
-    ∙ some_full most_records (is_new m p) (firsts k m) r.0 l)
+pub filtered_news : (m : List ℕ) (p : ℕ) → take most_records (filter (is_new m p) (ops_of m)) ≡ news m p
+unfolding news newer_than
+filtered_news m p = ap (take most_records) (filter_those (is_new m p) (ops_of m))
 
 pub news_few : (m : List ℕ) (p count : ℕ) → count ≡ length (news m p) → count ≤ most_records
 unfolding news
 news_few m p count e = omega (arith, length-take most_records (newer_than (heard m p) (ops_of m)))
 
-news_other : (k : ℕ) (m : List ℕ) (p : ℕ) → is_new m p (op_at m k) ≡ false → news_in (k + 1) m p ≡ news_in k m p
-unfolding news_in newer_than
-news_other k m p h = rw (firsts_more k m) (some_other most_records (is_new m p) (firsts k m) (op_at m k) h)
-
-news_one : (k : ℕ) (m : List ℕ) (p : ℕ) → length (news_in k m p) < most_records → is_new m p (op_at m k) ≡ true → news_in (k + 1) m p ≡ news_in k m p ++ op_at m k ∷ []
-unfolding news_in newer_than
-news_one k m p l h = rw (firsts_more k m) (some_one most_records (is_new m p) (firsts k m) (op_at m k) l h)
+-- and what the code's chain over the log gives
+pub news_road : {F : Type 0} (g : Mut F (Bor Op × Unit {0}) Bool) (m : List ℕ) (p : ℕ) {f : F} (it : Operations) (u : Filter Operations F) (s : Take (Filter Operations F)) {r : Take (Filter Operations F)} →
+    ops_left it ≡ ops_of m → filter_source u ≡ it → filter_callee u ≡ f → take_source s ≡ u → take_count s ≡ most_records → r ≡ s →
+    ((x : Op) (b : Bool) (q : F) → CalledAt g f x b q → (q ≡ f) × (b ≡ is_new m p (op_of x))) →
+    YieldsList (take_steps (filter_steps (YieldsFirstBy op_of ops_left) g)) op_of r (news m p)
+news_road g m p it u s a b c d e h k =
+    rw (← (filtered_news m p))
+    (YieldsList-at h (YieldsList-from_take most_records (YieldsList-at d (YieldsList-from_filter g (is_new m p) (YieldsList-at b (YieldsList-from_first op_of ops_left (ops_of m) a)) c k)) e))
 
 -- their records
 flat_more : (xs : List doc.Op) (o : doc.Op) → flat record_bytes (xs ++ o ∷ []) ≡ flat record_bytes xs ++ record_bytes o
@@ -86,32 +66,25 @@ unfolding flat
 length-flat [] = refl
 length-flat (x ∷ xs) = rw (length-append, length-flat xs, length_record x) (omega arith)
 
--- how many have been written, and where: behind the bytes in front
-abbrev pub Sent : (at : ℕ) (out : List ℕ) (ops : List doc.Op) (count : ℕ) (now : List ℕ) → Type 0
-Sent at out ops count now = (count ≡ length ops) × (now ≡ filled (take at out ++ flat record_bytes ops) out)
+-- what has been written: behind the bytes in front
+abbrev pub Sent : (at : ℕ) (out : List ℕ) (ops : List doc.Op) (now : List ℕ) → Type 0
+Sent at out ops now = now ≡ filled (take at out ++ flat record_bytes ops) out
 
-pub sent_none : (at : ℕ) (out m : List ℕ) (p : ℕ) → at ≤ length out → Sent at out (news_in 0 m p) 0 out
+pub sent_none : (at : ℕ) (out : List ℕ) → at ≤ length out → Sent at out [] out
 unfolding flat
-sent_none at out m p h = rw (news_none m p, append-nil) (refl, fill_none out at h)
+sent_none at out h = rw append-nil (fill_none out at h)
 
-module _ (m out : List ℕ) (p k at : ℕ) (o : doc.Op) (count : ℕ) (now : List ℕ) (h : at ≤ length out) (e : o ≡ op_at m k) (s : Sent at out (news_in k m p) count now) where
-  pub sent_other : false ≡ is_new m p o → Sent at out (news_in (k + 1) m p) count now
-  sent_other f = rw (news_other k m p (sym (rw e at f))) s
+-- one more of a list that is sent from its beginning
+pub sent_one : (at : ℕ) (out now next : List ℕ) (ops : List doc.Op) (k : ℕ) (o : doc.Op) → at ≤ length out → (k < length ops) × (o ≡ get_or ops k o) → Sent at out (take k ops) now →
+    next ≡ paste now (at + k * 16) (record_bytes o) 16 → Sent at out (take (k + 1) ops) next
+sent_one at out now next ops k o h t s q =
+    let xs : List doc.Op = take k ops in
+    let bs : List ℕ = take at out ++ flat record_bytes xs in
+    let l : length xs ≡ k = omega (arith, length-take k ops) in
+    let i : take (k + 1) ops ≡ xs ++ o ∷ [] = take_more ops k o t.0 ∙ ap (λ p. xs ++ p ∷ []) (sym t.1) in
+    let a : at + k * 16 ≡ length bs = rw (length-append, length-flat xs, length_front out at h, l) in
+    let u : bs ++ record_bytes o ≡ take at out ++ flat record_bytes (xs ++ o ∷ []) = rw (flat_more, append_assoc) in
+    rw i (q ∙ rw s (fill_more bs (record_bytes o) out 16 (at + k * 16) a (sym (length_record o))) ∙ ap (λ (ys : List ℕ). filled ys out) u)
 
-  pub sent_one : (next : List ℕ) → count < most_records → true ≡ is_new m p o → next ≡ paste now (at + count * 16) (record_bytes o) 16 →
-      Sent at out (news_in (k + 1) m p) (count + 1) next
-  sent_one next l t q =
-      let i : news_in (k + 1) m p ≡ news_in k m p ++ o ∷ [] = rw e (news_one k m p (omega arith) (sym (rw e at t))) in
-      let bs : List ℕ = take at out ++ flat record_bytes (news_in k m p) in
-      let a : at + count * 16 ≡ length bs = rw (length-append, length-flat (news_in k m p), length_front out at h, ← s.0) in
-      let b : paste now (at + count * 16) (record_bytes o) 16 ≡ filled (bs ++ record_bytes o) out =
-      rw s.1 (fill_more bs (record_bytes o) out 16 (at + count * 16) a (sym (length_record o))) in
-      let u : bs ++ record_bytes o ≡ take at out ++ flat record_bytes (news_in k m p ++ o ∷ []) = rw (flat_more, append_assoc) in
-      rw i (rw length-append (omega arith), q ∙ b ∙ ap (λ (xs : List ℕ). filled xs out) u)
-
--- the whole log, or as much as fits
-pub sent_all : (m out : List ℕ) (p k at count : ℕ) (now : List ℕ) → k ≤ kept m → (k < kept m → ⊥) → Sent at out (news_in k m p) count now → Sent at out (news m p) count now
-sent_all m out p k at count now l n s = rw (← (news-all k m p l n)) s
-
-pub sent_full : (m out : List ℕ) (p k at count : ℕ) (now : List ℕ) → k ≤ kept m → most_records ≤ count → Sent at out (news_in k m p) count now → Sent at out (news m p) count now
-sent_full m out p k at count now l f s = rw (← (news-full k m p l (omega arith))) s
+pub sent_all : (at : ℕ) (out now : List ℕ) (ops : List doc.Op) (k : ℕ) → k ≡ length ops → Sent at out (take k ops) now → Sent at out ops now
+sent_all at out now ops k e s = rw (take_all k ops (omega arith)) at s

@@ -1,11 +1,14 @@
 -- Whether bytes are a letter, test by test.
-use Rattle.std.proofs.Common.{◌≡◌, ℕ, ◌+◌, ◌-◌, ◌*◌, ◌<◌, Bool, true, false, eqb, List, length, get_or, take, sym, ap, ◌∙◌, arith, w8, Fits}
-use Rattle.std.proofs.lemmas.Bool.{eq-eqb, ne_eqb, eqb-true, and_parts}
+use Rattle.std.specs.Prelude.{Option, Some, None, is_some, IfSome}
+use Rattle.std.specs.Option.{MatchOption}
+use Rattle.std.specs.Bool.{then_some}
+use Rattle.std.proofs.Common.{◌≡◌, ℕ, ◌+◌, ◌-◌, ◌*◌, Bool, ◌&&◌, true, false, eqb, List, length, take, refl, ap, ◌∙◌}
 use Rattle.messages.specs.Bytes.{byte, number_at}
 use Rattle.checksums.specs.Crc.{crc32_of}
 use Rattle.messages.specs.Records.{are_records}
 use Rattle.messages.specs.Letter.{is_sealed, is_letter}
-use Rattle.messages.proofs.Formed.{as_byte}
+use Rattle.messages.specs.Parsed.{is_between, is_whole}
+use Rattle.messages.specs.declared.parsed.Letter.{Letter}
 
 pub sealed_is : (bs : List ℕ) (n a b : ℕ) → n ≡ length bs - 4 → a ≡ number_at bs n → b ≡ crc32_of (take n bs) → eqb a b ≡ is_sealed bs
 unfolding is_sealed
@@ -13,51 +16,25 @@ sealed_is bs n a b e f g =
     ap (λ (x : ℕ). eqb x b) f ∙ ap (λ (y : ℕ). eqb (number_at bs n) y) g
     ∙ ap (λ (k : ℕ). eqb (number_at bs k) (crc32_of (take k bs))) e
 
-module _ (from for : ℕ) (bs : List ℕ) (typed : (i : ℕ) → Fits w8 (get_or bs i 0)) where
-  pub other_length : (length bs ≡ 136 + get_or bs 3 0 * 16 → ⊥) → false ≡ is_letter from for bs
-  unfolding is_letter
-  other_length h = rw (ne_eqb (length bs) (136 + byte bs 3 * 16) (λ e. h (let n = as_byte bs typed 3 in omega arith)))
+some_if : (b : Bool) (l : Letter) → is_some (then_some b l) ≡ b
+some_if true l = refl
+some_if false l = refl
 
-  pub too_short : length bs < 136 → false ≡ is_letter from for bs
-  too_short h = other_length (λ e. omega arith)
+and_regroup : (a b c d : Bool) → (a && (b && c)) && d ≡ a && (b && (c && d))
+and_regroup true true c d = refl
+and_regroup true false c d = refl
+and_regroup false b c d = refl
 
-  module _ (l : length bs ≡ 136 + get_or bs 3 0 * 16) where
-    long : eqb (length bs) (136 + byte bs 3 * 16) ≡ true
-    long = let n = as_byte bs typed 3 in eq-eqb (length bs) (136 + byte bs 3 * 16) (omega arith)
+module _ (from for : ℕ) (bs : List ℕ) where
+  pub between_is : (x y z : Bool) → x ≡ eqb (byte bs 0) 1 → y ≡ eqb (byte bs 1) from → z ≡ eqb (byte bs 2) for → x && (y && z) ≡ is_between from for bs
+  unfolding is_between
+  between_is x y z e f g = cc
 
-    pub other_format : (get_or bs 0 0 ≡ 1 → ⊥) → false ≡ is_letter from for bs
-    unfolding is_letter
-    other_format h = rw (long, ne_eqb (byte bs 0) 1 (λ e. h (as_byte bs typed 0 ∙ e)))
-
-    module _ (v : get_or bs 0 0 ≡ 1) where
-      format : eqb (byte bs 0) 1 ≡ true
-      format = eq-eqb (byte bs 0) 1 (sym (as_byte bs typed 0) ∙ v)
-
-      pub other_sender : (get_or bs 1 0 ≡ from → ⊥) → false ≡ is_letter from for bs
-      unfolding is_letter
-      other_sender h = rw (long, format, ne_eqb (byte bs 1) from (λ e. h (as_byte bs typed 1 ∙ e)))
-
-      module _ (s : get_or bs 1 0 ≡ from) where
-        sender : eqb (byte bs 1) from ≡ true
-        sender = eq-eqb (byte bs 1) from (sym (as_byte bs typed 1) ∙ s)
-
-        pub other_addressee : (get_or bs 2 0 ≡ for → ⊥) → false ≡ is_letter from for bs
-        unfolding is_letter
-        other_addressee h = rw (long, format, sender, ne_eqb (byte bs 2) for (λ e. h (as_byte bs typed 2 ∙ e)))
-
-        module _ (t : get_or bs 2 0 ≡ for) where
-          addressee : eqb (byte bs 2) for ≡ true
-          addressee = eq-eqb (byte bs 2) for (sym (as_byte bs typed 2) ∙ t)
-
-          pub no-records : false ≡ are_records (get_or bs 3 0) bs → false ≡ is_letter from for bs
-          unfolding is_letter
-          no-records h = rw (long, format, sender, addressee, ← (as_byte bs typed 3), ← h)
-
-          pub all_but_seal : (r : Bool) → true ≡ are_records (get_or bs 3 0) bs → r ≡ is_sealed bs → r ≡ is_letter from for bs
-          unfolding is_letter
-          all_but_seal r h e = rw (long, format, sender, addressee, ← (as_byte bs typed 3), ← h) e
-
-  -- and a letter has the length that it says
-  pub letter-length : true ≡ is_letter from for bs → length bs ≡ 136 + get_or bs 3 0 * 16
-  unfolding is_letter
-  letter-length h = let n = as_byte bs typed 3 in let e = eqb-true (length bs) (136 + byte bs 3 * 16) (and_parts _ _ (sym h)).0 in omega arith
+  -- bytes that are as long as they say are kept as a letter if they are whole
+  pub parsed_is : (framed kept : Option Letter) → is_some framed ≡ eqb (length bs) (136 + byte bs 3 * 16) → IfSome framed (λ l. l.bytes.now ≡ bs) →
+      MatchOption framed (kept ≡ None) (λ l. (b : Bool) × (b ≡ is_whole from for l.bytes.now) × (kept ≡ then_some b l)) → is_some kept ≡ is_letter from for bs
+  unfolding is_letter is_between
+  parsed_is None kept t v h = rw h (rw (← t) refl)
+  parsed_is (Some l) kept t v (b, e, k) =
+      ap is_some k ∙ some_if b l ∙ e ∙ ap (is_whole from for) v ∙ and_regroup (eqb (byte bs 0) 1) (eqb (byte bs 1) from) (eqb (byte bs 2) for) (are_records (byte bs 3) bs && is_sealed bs)
+      ∙ rw (← t) refl

@@ -7,9 +7,6 @@ ghost use Rattle.messages.specs.Letter.{heard};
 use ops::layout::{DESKS, HEARD};
 use ops::{Desk, Memory, Op};
 
-// Entries are below this; of whatever else stands in a cell, the low 32 bits are read.
-const LIMIT: u64 = 4_294_967_296;
-
 fn heard_cell(peer: Desk, desk: Desk) -> usize
     ensures value { result ≡ heard_cell (desk_of peer) (desk_of desk) }
     ensures bound { result < memory_size }
@@ -21,7 +18,7 @@ fn heard_cell(peer: Desk, desk: Desk) -> usize
 fn heard_from(memory: &Memory, peer: Desk, desk: Desk) -> u32
     ensures { result ≡ heard (held memory.now) (desk_of peer) (desk_of desk) }
 {
-    (memory.cells[heard_cell(peer, desk)] % LIMIT) as u32
+    memory.low_half(heard_cell(peer, desk))
 }
 
 // Whether an operation is above what a peer is known to know.

@@ -1,5 +1,5 @@
 // How a letter is laid out, in bytes: a head, the sender's version vector, the records, and a CRC-32 of all that.
-pub const DESKS: u8 = 32;
+pub const DESKS: u8 = ops::layout::DESKS as u8;
 
 pub const NUMBER: usize = 4;
 

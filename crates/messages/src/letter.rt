@@ -1,20 +1,21 @@
 // Writing and reading whole letters.
-ghost use Rattle.std.specs.Prelude.{◌≡◌, ◌+◌, ◌*◌, ◌≤◌, [], ◌∷◌, ◌++◌, length, take};
+ghost use Rattle.std.specs.Prelude.{◌≡◌, ◌+◌, ◌≤◌, [], ◌∷◌, ◌++◌, length, take, is_ok};
 ghost use Rattle.std.proofs.Math.Seq.{paste};
 ghost use Rattle.ops.specs.Doc.{pick, flat};
 ghost use Rattle.ops.specs.Values.{desk_of, op_of, held, Holds};
-ghost use Rattle.messages.specs.Bytes.{four};
+ghost use Rattle.messages.specs.Bytes.{four, byte};
 ghost use Rattle.checksums.specs.Crc.{crc32_of};
 ghost use Rattle.messages.specs.Records.{record_bytes, records};
-ghost use Rattle.messages.specs.Letter.{news, versions, vector_bytes, letter_for, filled, Wrote, is_sealed, is_letter, noted, deliver, delivered, received};
+ghost use Rattle.messages.specs.Letter.{news, versions, vector_bytes, letter_for, filled, Wrote, is_letter, noted, deliver, delivered, received};
 
-use crate::bytes::{number_at, put_number};
+use crate::bytes::put_number;
 use crate::heard::{is_news, note};
 use crate::layout::{
     ADDRESSEE, COUNT, DESKS, EMPTY, FORMAT, HEAD, LONGEST, MOST_RECORDS, NUMBER, RECORD, RECORDS,
     SENDER,
 };
-use crate::records::{are_records, put_record, record_at};
+use crate::parsed::Letter;
+use crate::records::put_record;
 use checksums::crc32;
 use ops::{Desk, Memory, Op};
 
@@ -50,17 +51,14 @@ fn write_news(memory: &Memory, to: Desk, out: &mut [u8]) -> usize
     ensures count { result ≡ length (news (held memory.now) (desk_of to)) }
     ensures after { out.new ≡ filled (take 132 out.old ++ flat record_bytes (news (held memory.now) (desk_of to))) out.old }
 {
+    let news = memory
+        .operations()
+        .filter(|op| is_news(memory, to, *op))
+        .take(MOST_RECORDS);
     let mut count = 0;
-    let mut k = 0;
-    while let Some(op) = memory.operation(k) {
-        if count >= MOST_RECORDS {
-            return count;
-        }
-        if is_news(memory, to, op) {
-            put_record(out, RECORDS + count * RECORD, op);
-            count += 1;
-        }
-        k += 1;
+    for op in news {
+        put_record(out, RECORDS + count * RECORD, op);
+        count += 1;
     }
     count
 }
@@ -90,53 +88,17 @@ pub fn write_letter(memory: &Memory, from: Desk, to: Desk, out: &mut [u8]) -> Op
     Some(n + NUMBER)
 }
 
-// Whether the last four bytes are the CRC of those before them.
-fn is_sealed(letter: &[u8]) -> bool
-    requires { 4 ≤ length letter.now }
-    ensures { result ≡ is_sealed letter.now }
-{
-    let n = letter.len() - NUMBER;
-    number_at(letter, n) == crc32(&letter[..n])
-}
-
-// Whether these bytes are a letter of this format between these desks, whole and undamaged.
-fn is_whole(letter: &[u8], from: Desk, to: Desk) -> bool
-    ensures { result ≡ is_letter (desk_of from) (desk_of to) letter.now }
-{
-    if letter.len() < EMPTY {
-        return false;
-    }
-    let count = letter[COUNT] as usize;
-    if letter.len() != EMPTY + count * RECORD {
-        return false;
-    }
-    if letter[0] != FORMAT {
-        return false;
-    }
-    if letter[SENDER] != from.number {
-        return false;
-    }
-    if letter[ADDRESSEE] != to.number {
-        return false;
-    }
-    if !are_records(letter, count) {
-        return false;
-    }
-    is_sealed(letter)
-}
+// Bytes that are no letter: of another format, of other desks, or damaged.
+#[derive(Clone, Copy, PartialEq, Eq, Debug)]
+pub struct NotALetter;
 
 // Notes what a letter's sender knows.
-fn note_versions(memory: &mut Memory, from: Desk, letter: &[u8])
-    requires { 132 ≤ length letter.now }
-    ensures { Holds memory.old memory.new (noted 32 (desk_of from) letter.now (held memory.old)) }
+fn note_versions(memory: &mut Memory, from: Desk, letter: &Letter)
+    ensures { Holds memory.old memory.new (noted 32 (desk_of from) letter.now.bytes.now (held memory.old)) }
 {
     for number in 0..DESKS {
-        note(
-            memory,
-            from,
-            Desk { number },
-            number_at(letter, HEAD + number as usize * NUMBER),
-        );
+        let desk = Desk { number };
+        note(memory, from, desk, letter.version(desk));
     }
 }
 
@@ -145,29 +107,32 @@ fn deliver(memory: &mut Memory, op: Op)
     ensures { Holds memory.old memory.new (deliver (held memory.old) (op_of op)) }
 {
     if memory.version(op.id.desk) < op.id.n {
-        memory.append(op);
+        // a full log stays as it is
+        let _ = memory.append(op);
     }
 }
 
-// Takes what is new of a letter's first `count` records, in their order.
-fn deliver_records(memory: &mut Memory, letter: &[u8], count: usize)
-    requires { 132 + count * 16 ≤ length letter.now }
-    ensures { Holds memory.old memory.new (delivered (held memory.old) (records count letter.now)) }
+// Takes what is new of a letter's records, in their order.
+fn deliver_records(memory: &mut Memory, letter: &Letter)
+    ensures { Holds memory.old memory.new (delivered (held memory.old) (records (byte letter.now.bytes.now 3) letter.now.bytes.now)) }
 {
-    for k in 0..count {
-        deliver(memory, record_at(letter, RECORDS + k * RECORD));
+    for op in letter.records() {
+        deliver(memory, op);
     }
 }
 
 // Takes what is new in a letter; one that is none, damaged, or of other desks is refused, and nothing is changed.
-pub fn read_letter(memory: &mut Memory, from: Desk, to: Desk, letter: &[u8]) -> bool
-    ensures value { result ≡ is_letter (desk_of from) (desk_of to) letter.now }
-    ensures after { Holds memory.old memory.new (pick result (received (desk_of from) letter.now (held memory.old)) (held memory.old)) }
+pub fn read_letter(
+    memory: &mut Memory,
+    from: Desk,
+    to: Desk,
+    letter: &[u8],
+) -> Result<(), NotALetter>
+    ensures value { is_ok result ≡ is_letter (desk_of from) (desk_of to) letter.now }
+    ensures after { Holds memory.old memory.new (pick (is_ok result) (received (desk_of from) letter.now (held memory.old)) (held memory.old)) }
 {
-    if !is_whole(letter, from, to) {
-        return false;
-    }
-    note_versions(memory, from, letter);
-    deliver_records(memory, letter, letter[COUNT] as usize);
-    true
+    let letter = Letter::parse(letter, from, to).ok_or(NotALetter)?;
+    note_versions(memory, from, &letter);
+    deliver_records(memory, &letter);
+    Ok(())
 }

@@ -8,4 +8,5 @@ mod bytes;
 mod heard;
 mod layout;
 pub mod letter;
+mod parsed;
 mod records;

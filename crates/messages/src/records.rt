@@ -1,17 +1,18 @@
 // An operation as a record of 16 bytes, and back.
-ghost use Rattle.std.specs.Prelude.{◌≡◌, ◌+◌, ◌*◌, ◌≤◌, length};
+ghost use Rattle.std.specs.Prelude.{◌≡◌, ◌+◌, ◌≤◌, length};
 ghost use Rattle.std.proofs.Math.Seq.{paste};
 ghost use Rattle.ops.specs.Values.{desk_of, op_of};
-ghost use Rattle.messages.specs.Records.{record_of, record_bytes, op_from, is_record, are_records};
+ghost use Rattle.ops.specs.Values.{tag_of};
+ghost use Rattle.messages.specs.Records.{record_of, record_bytes, op_from, is_record};
 
-use crate::bytes::number_at;
-use crate::layout::{DESKS, RECORD, RECORDS};
-use ops::{Desk, Kind, Op, OpId};
+use crate::bytes::{number_at, put_number};
+use crate::layout::{DESKS, RECORD};
+use ops::{Desk, Kind, Op, OpId, Tag};
 
-// Where a record has what follows its number: the operation's desk, its kind, the desk of the operation that it is about, and two values.
+// Where a record has what follows its number: the operation's desk, its tag, the desk of the operation that it is about, and two values.
 const DESK: usize = 4;
 
-const KIND: usize = 5;
+const TAG: usize = 5;
 
 const ABOUT: usize = 6;
 
@@ -19,42 +20,18 @@ const FIRST: usize = 8;
 
 const SECOND: usize = 12;
 
-// The kinds of operations, by number.
-const INSERT: u8 = 0;
-
-const DELETE: u8 = 1;
-
-const WRITE: u8 = 2;
-
-const ADD: u8 = 3;
-
-const KINDS: u8 = 4;
-
 // The bytes of a record's parts.
-fn record_of(id: OpId, kind: u8, about: u8, x: u32, y: u32) -> [u8; RECORD]
-    ensures { result ≡ record_of id.n (desk_of id.desk) kind about x y }
+fn record_of(id: OpId, tag: Tag, about: u8, x: u32, y: u32) -> [u8; RECORD]
+    ensures { result ≡ record_of id.n (desk_of id.desk) (tag_of tag) about x y }
 {
-    let n = id.n.to_le_bytes();
-    let x = x.to_le_bytes();
-    let y = y.to_le_bytes();
-    [
-        n[0],
-        n[1],
-        n[2],
-        n[3],
-        id.desk.number,
-        kind,
-        about,
-        0,
-        x[0],
-        x[1],
-        x[2],
-        x[3],
-        y[0],
-        y[1],
-        y[2],
-        y[3],
-    ]
+    let mut record = [0; RECORD];
+    put_number(&mut record, 0, id.n);
+    record[DESK] = id.desk.number;
+    record[TAG] = tag as u8;
+    record[ABOUT] = about;
+    put_number(&mut record, FIRST, x);
+    put_number(&mut record, SECOND, y);
+    record
 }
 
 // An operation's record.
@@ -62,10 +39,16 @@ fn record_bytes(op: Op) -> [u8; RECORD]
     ensures { result ≡ record_bytes (op_of op) }
 {
     match op.kind {
-        Kind::Insert { after, sign } => record_of(op.id, INSERT, after.desk.number, after.n, sign),
-        Kind::Delete { target } => record_of(op.id, DELETE, target.desk.number, target.n, 0),
-        Kind::Write { key, word } => record_of(op.id, WRITE, 0, key, word),
-        Kind::Add { key, amount } => record_of(op.id, ADD, 0, key, amount),
+        Kind::Insert { after, sign } => record_of(
+            op.id,
+            Tag::Insert,
+            after.desk.number,
+            after.n,
+            sign,
+        ),
+        Kind::Delete { target } => record_of(op.id, Tag::Delete, target.desk.number, target.n, 0),
+        Kind::Write { key, word } => record_of(op.id, Tag::Write, 0, key, word),
+        Kind::Add { key, amount } => record_of(op.id, Tag::Add, 0, key, amount),
     }
 }
 
@@ -97,38 +80,24 @@ pub fn record_at(letter: &[u8], at: usize) -> Op
             number: letter[at + ABOUT] % DESKS,
         },
     };
-    let kind = match letter[at + KIND] {
-        INSERT => Kind::Insert {
+    let kind = match Tag::try_from(u32::from(letter[at + TAG])).unwrap_or(Tag::Add) {
+        Tag::Insert => Kind::Insert {
             after: target,
             sign: y,
         },
-        DELETE => Kind::Delete { target },
-        WRITE => Kind::Write { key: x, word: y },
-        _ => Kind::Add { key: x, amount: y },
+        Tag::Delete => Kind::Delete { target },
+        Tag::Write => Kind::Write { key: x, word: y },
+        Tag::Add => Kind::Add { key: x, amount: y },
     };
     Op { id, kind }
 }
 
 // Whether there is a well-formed record at a place of a letter.
-fn is_record(letter: &[u8], at: usize) -> bool
+pub fn is_record(letter: &[u8], at: usize) -> bool
     requires { at + 16 ≤ length letter.now }
     ensures { result ≡ is_record letter.now at }
 {
-    if letter[at + KIND] >= KINDS {
-        return false;
-    }
-    letter[at + DESK] < DESKS && letter[at + ABOUT] < DESKS
-}
-
-// Whether a letter's first `count` records are well formed.
-pub fn are_records(letter: &[u8], count: usize) -> bool
-    requires { 132 + count * 16 ≤ length letter.now }
-    ensures { result ≡ are_records count letter.now }
-{
-    for k in 0..count {
-        if !is_record(letter, RECORDS + k * RECORD) {
-            return false;
-        }
-    }
-    true
+    letter[at + DESK] < DESKS
+        && Tag::try_from(u32::from(letter[at + TAG])).is_ok()
+        && letter[at + ABOUT] < DESKS
 }

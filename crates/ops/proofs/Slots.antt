@@ -5,7 +5,7 @@ use borrow.Rule.Slice.PartMut.{put_mid}
 use Rattle.std.proofs.lemmas.Slice.{put_mid-paste}
 use Rattle.std.proofs.lemmas.List.Edits.{paste_all, sets-eq}
 use Rattle.std.specs.Prelude.{Result, Ok, Err}
-use Rattle.std.specs.Result.{result_unwrap_or}
+use Rattle.std.specs.Result.{is_ok, result_unwrap_or}
 use Rattle.ops.specs.Doc as doc
 use Rattle.ops.specs.Doc.{pick, id, put_in, struck, under, added}
 use Rattle.ops.specs.declared.types.Op.{Op}
@@ -43,6 +43,10 @@ tag_small Add = omega arith
 pub tag_read : (n : ℕ) (r : Result Tag UnknownTag) (t : Tag) → ReadsTag n r → t ≡ result_unwrap_or r Add → min n 3 ≡ tag_of t
 tag_read n (Ok u) t h e = omega (arith, tag_small u, ap tag_of e)
 tag_read n (Err u) t h e = omega (arith, ap tag_of e)
+
+pub tag_known : (n : ℕ) (r : Result Tag UnknownTag) → ReadsTag n r → is_ok r ≡ ltb n 4
+tag_known n (Ok u) h = sym (lt-ltb n 4 (omega (arith, tag_small u)))
+tag_known n (Err u) h = sym (le-ltb n 4 h)
 
 pub op_is : (m : List ℕ) (k n w t x y z : ℕ) (kd : doc.Kind) → n ≡ part m k 0 → w ≡ part m k 1 → t ≡ part m k 2 → x ≡ part m k 3 → y ≡ part m k 4 → z ≡ part m k 5 →
     kind_from t x y z ≡ kd → ◌≡◌ {A = doc.Op} (record { name = id n (w % 32); kind = kd }) (op_at m k)

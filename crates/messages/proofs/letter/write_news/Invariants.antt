@@ -1,11 +1,8 @@
-use Rattle.std.proofs.Common.{◌-◌, ◌≤◌}
-use Rattle.ops.specs.Log.{kept}
+use Rattle.std.proofs.Common.{◌≡◌, ◌+◌, length, take}
 use Rattle.ops.specs.Values.{desk_of, held}
-use Rattle.messages.proofs.News.{news_in, Sent}
+use Rattle.messages.specs.Letter.{news}
+use Rattle.messages.proofs.News.{Sent}
 use Rattle.messages.proofs.letter.write_news.Given as goal
 
 abbrev pub invariant-loop-op : goal.invariant-loop-op
-invariant-loop-op l = (l.k ≤ kept (held l.memory)) × Sent 132 l.initial.out (news_in l.k (held l.memory) (desk_of l.to)) l.count l.out
-
-abbrev pub decreases-loop-op : goal.decreases-loop-op
-decreases-loop-op l = kept (held l.memory) - l.k
+invariant-loop-op l = (l.count + l.op-iterator.n ≡ 247) × (l.count ≡ length l.yielded) × Sent 132 l.initial.out (take l.count (news (held l.memory) (desk_of l.fn.to))) l.out

@@ -51,3 +51,8 @@ leaves_rest = leaves rest (λ x. refl)
 pub leaves_unsent : (m : Memory) (ev : Event) (k : ℕ) (r : Result ℕ Refusal) {e e₁ : Refusal} (out : List ℕ) → IsErrAnd r (λ x. x ≡ e) → e ≡ e₁ → number_of e₁ ≡ suc k → refusal (held m) ev ≡ suc k → Posts (step_own (held m) ev) r m m out out
 leaves_unsent m ev k (Ok x) out h i n z = absurd h
 leaves_unsent m ev k (Err x) out h i n z = record { acts = refusing m ev k (h ∙ i) n z; front = refl }
+
+-- a refusal that stands for this one, whatever was done before it
+pub leaves_as : (m m₁ : Memory) (s : Step) (r : Result (Unit {0}) Refusal) (k : Refusal) → IsErrAnd r (λ x. x ≡ k) → Acts s (refused (number_of k)) m m₁ → Acts s (quiet r) m m₁
+leaves_as m m₁ s (Ok x) k h q = absurd h
+leaves_as m m₁ s (Err x) k h q = subst (λ a. Acts s (refused (number_of a)) m m₁) (sym h) q

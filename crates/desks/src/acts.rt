@@ -162,9 +162,7 @@ pub fn read(memory: &mut Memory, from: u64, letter: &[u8]) -> Result<(), Refusal
 {
     let desk = this_desk(memory)?;
     let peer = peer_of(desk, from)?;
-    if !read_letter(memory, peer, desk, letter) {
-        return Err(Refusal::Malformed);
-    }
+    read_letter(memory, peer, desk, letter)?;
     memory.cells[PENDING] = 0;
     Ok(())
 }

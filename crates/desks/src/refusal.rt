@@ -2,7 +2,9 @@
 ghost use Rattle.std.specs.Prelude.{◌≡◌, Some};
 ghost use Rattle.std.specs.Fmt.{decimal};
 ghost use Rattle.desks.specs.Refusals.{number_of};
+ghost use Rattle.desks.specs.declared.refusal.Refusal.TheVariants.{Malformed};
 
+use messages::letter::NotALetter;
 use std::fmt;
 
 #[derive(Clone, Copy, PartialEq, Eq, Debug)]
@@ -24,6 +26,14 @@ impl From<Refusal> for u64 {
 
     fn from(refusal: Refusal) -> u64 {
         refusal as u64
+    }
+}
+
+impl From<NotALetter> for Refusal {
+    ghost from_gives = { λ _ refusal. refusal ≡ Malformed };
+
+    fn from(_error: NotALetter) -> Refusal {
+        Refusal::Malformed
     }
 }
 

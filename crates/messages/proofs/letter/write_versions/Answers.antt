@@ -1,6 +1,6 @@
-use Rattle.std.proofs.Common.{◌≡◌, ◌++◌, take, ap, ◌∙◌, arith}
+use Rattle.std.proofs.Common.{◌∙◌, arith}
 use Rattle.ops.specs.Values.{held}
-use Rattle.messages.specs.Letter.{versions, vector_bytes, filled}
+use Rattle.messages.specs.Letter.{versions}
 use Rattle.messages.proofs.Fills.{vector_none, vector_more}
 use Rattle.messages.proofs.letter.write_versions.Goals as goal
 
@@ -11,8 +11,3 @@ pub loop-number-preserved : goal.loop-number-preserved
 loop-number-preserved c =
     c.put_number.ensures
     ∙ vector_more c.args.out.now _ (versions (held c.args.memory.now)) c.loop-number.number 4 _ (omega arith) c.loop-number.invariant c.version.ensures
-
-pub returns : goal.returns
-returns c =
-    let e : c.loop-number.number ≡ 32 = omega arith in
-    c.loop-number.invariant ∙ ap (λ d. filled (take 4 c.args.out.now ++ vector_bytes d (versions (held c.args.memory.now))) c.args.out.now) e

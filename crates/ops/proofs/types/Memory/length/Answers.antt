@@ -2,6 +2,6 @@ use Rattle.std.proofs.Common.{rules}
 use Rattle.ops.specs.Log.{kept}
 use Rattle.ops.proofs.types.Memory.length.Goals as goal
 
-pub returns : goal.returns
+pub returns-clause-value : goal.returns-clause-value
 unfolding kept
-returns c = record { value = search rules; bound = search rules }
+returns-clause-value c = search rules

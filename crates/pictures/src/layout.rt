@@ -12,6 +12,43 @@ const LANE: u64 = 72;
 
 const DESKS: u64 = 32;
 
+// A point of the picture: x to the right, y down.
+#[derive(Clone, Copy, Debug, PartialEq, Eq)]
+pub struct Point {
+    pub x: u64,
+    pub y: u64,
+}
+
+impl Point {
+    pub fn right(self, by: u64) -> Point {
+        Point {
+            x: self.x.saturating_add(by),
+            ..self
+        }
+    }
+
+    pub fn left(self, by: u64) -> Point {
+        Point {
+            x: self.x.saturating_sub(by),
+            ..self
+        }
+    }
+
+    pub fn down(self, by: u64) -> Point {
+        Point {
+            y: self.y.saturating_add(by),
+            ..self
+        }
+    }
+
+    pub fn up(self, by: u64) -> Point {
+        Point {
+            y: self.y.saturating_sub(by),
+            ..self
+        }
+    }
+}
+
 #[derive(Drop)]
 pub struct Layout {
     // The desks, from the top.
@@ -21,8 +58,7 @@ pub struct Layout {
 
 fn takes_part(event: &Event, desk: u64) -> bool {
     match event {
-        Event::Deed { desk: here, .. } => *here == desk,
-        Event::Shown { desk: here, .. } => *here == desk,
+        Event::Deed { desk: here, .. } | Event::Shown { desk: here, .. } => *here == desk,
         Event::Made { from, to, .. } => *from == desk || *to == desk,
         Event::Came { .. } => false,
         Event::Met { one, other } => *one == desk || *other == desk,
@@ -30,24 +66,15 @@ fn takes_part(event: &Event, desk: u64) -> bool {
 }
 
 fn any_at(events: &[Event], desk: u64) -> bool {
-    for event in events {
-        if takes_part(event, desk) {
-            return true;
-        }
-    }
-    false
+    events.iter().any(|event| takes_part(event, desk))
 }
 
 impl Layout {
     pub fn of(heap: Global, events: &[Event]) -> Result<Layout, AllocError> {
-        let mut lanes = Vec::new(heap);
-        for desk in 0..DESKS {
-            if any_at(events, desk) {
-                lanes.push(desk)?;
-            }
-        }
         Ok(Layout {
-            lanes,
+            lanes: (0..DESKS)
+                .filter(|desk| any_at(events, *desk))
+                .collect(heap)?,
             columns: events.len() as u64,
         })
     }
@@ -60,15 +87,13 @@ impl Layout {
         lane_y(self.lanes.len() as u64)
     }
 
-    // The height of a desk's line.
-    pub fn y(&self, desk: u64) -> u64 {
-        let mut lane = 0;
-        for (i, here) in self.lanes.iter().enumerate() {
-            if *here == desk {
-                lane = i as u64;
-            }
+    // Where a column meets a desk's line.
+    pub fn point(&self, column: u64, desk: u64) -> Point {
+        let lane = self.lanes.iter().position(|here| *here == desk);
+        Point {
+            x: x(column),
+            y: lane_y(lane.unwrap_or(0) as u64),
         }
-        lane_y(lane)
     }
 }
 

@@ -11,7 +11,7 @@ mod layout;
 pub use drawing::draw;
 
 // What happened, in order: each takes one step to the right.
-#[derive(Drop)]
+#[derive(Debug, Drop, PartialEq, Eq)]
 pub enum Event {
     Deed { desk: u64, label: String },
     Shown { desk: u64, label: String },

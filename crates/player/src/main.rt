@@ -29,10 +29,7 @@ The status is 1 if an expectation fails or a line cannot be played.";
 const VERSION: &str = "player 0.3.0 (letters 1, sessions 1)";
 
 fn main(rt: HostRuntime) -> io::Result<()> {
-    let mut words = Vec::new(rt.alloc());
-    for word in env::args(&rt)?.skip(1) {
-        words.push(word)?;
-    }
+    let words: Vec<String> = env::args(&rt)?.skip(1).collect(rt.alloc())?;
     match options::parse(words.as_slice()) {
         Some(Options::Help) => println!(rt; "{USAGE}\n\n{HELP}"),
         Some(Options::Version) => println!(rt; "{VERSION}"),

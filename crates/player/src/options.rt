@@ -1,5 +1,5 @@
 // What the program was asked to do.
-#[derive(Clone, Copy)]
+#[derive(Clone, Copy, Debug, PartialEq, Eq)]
 pub enum Options<'a> {
     Help,
     Version,
@@ -11,15 +11,6 @@ fn is_option(word: &String) -> bool {
     word.as_str().starts_with("--")
 }
 
-fn any_option(words: &[String]) -> bool {
-    for word in words {
-        if is_option(word) {
-            return true;
-        }
-    }
-    false
-}
-
 pub fn parse(words: &[String]) -> Option<Options<'_>> {
     match words {
         [] => None,
@@ -29,7 +20,7 @@ pub fn parse(words: &[String]) -> Option<Options<'_>> {
             session: session.as_str(),
             picture: picture.as_str(),
         }),
-        _ if any_option(words) => None,
+        _ if words.iter().any(is_option) => None,
         _ => Some(Options::Play(words)),
     }
 }

@@ -6,6 +6,8 @@ use replicas::Deed;
 use sessions::Line;
 use simulator::{Answer, Item, Room};
 use std::alloc::Global;
+use std::collections::BTreeMap;
+use std::fmt;
 
 const DESKS: u64 = 32;
 
@@ -14,22 +16,8 @@ const VERSION: u64 = 1;
 // How a letter of others is refused.
 const NOT_MINE: u64 = 1;
 
-// A letter of the session.
-#[derive(Drop)]
-struct Named {
-    name: String,
-    letter: u64,
-}
-
-// What a desk showed last.
-#[derive(Drop)]
-struct Shown {
-    desk: u64,
-    text: String,
-}
-
 // What comes of a line.
-#[derive(Drop)]
+#[derive(Debug, Drop, PartialEq, Eq)]
 pub enum Said {
     Nothing,
     Shows { desk: u64, text: String },
@@ -41,8 +29,10 @@ pub enum Said {
 pub struct Stage {
     heap: Global,
     room: Room,
-    letters: Vec<Named>,
-    shown: Vec<Shown>,
+    // The letters of the session: a name is the last one's that was given it.
+    letters: BTreeMap<String, u64>,
+    // What each desk showed last.
+    shown: BTreeMap<u64, String>,
     events: Vec<Event>,
     begun: bool,
 }
@@ -52,8 +42,8 @@ impl Stage {
         Ok(Stage {
             heap,
             room: Room::new(heap)?,
-            letters: Vec::new(heap),
-            shown: Vec::new(heap),
+            letters: BTreeMap::new(heap),
+            shown: BTreeMap::new(heap),
             events: Vec::new(heap),
             begun: false,
         })
@@ -105,18 +95,15 @@ impl Stage {
     }
 
     fn deed(&mut self, desk: u64, command: Command, deed: Deed) -> Result<Said, Trouble> {
-        let command_text = format!(in self.heap; "{command}")?;
+        let label = format!(in self.heap; "{command}")?;
         let item = Item::At {
             desk,
             command: simulator::Command::Do(deed),
         };
         match self.play(item)? {
-            Answer::Refused(refusal) => self.refused(desk, refusal),
+            Answer::Refused(refusal) => self.refused(desk, &refusal),
             _ => {
-                self.events.push(Event::Deed {
-                    desk,
-                    label: command_text,
-                })?;
+                self.events.push(Event::Deed { desk, label })?;
                 Ok(Said::Nothing)
             }
         }
@@ -128,12 +115,12 @@ impl Stage {
                 let text = answers::key_answer(self.heap, key.word, key.tally)?;
                 self.shows(desk, text)
             }
-            Answer::Refused(refusal) => self.refused(desk, refusal),
+            Answer::Refused(refusal) => self.refused(desk, &refusal),
             _ => Err(Trouble::NoAnswer),
         }
     }
 
-    fn refused(&mut self, desk: u64, refusal: u64) -> Result<Said, Trouble> {
+    fn refused(&mut self, desk: u64, refusal: &impl fmt::Display) -> Result<Said, Trouble> {
         let text = format!(in self.heap; "refused {refusal}")?;
         self.shows(desk, text)
     }
@@ -141,34 +128,18 @@ impl Stage {
     fn shows(&mut self, desk: u64, text: String) -> Result<Said, Trouble> {
         let label = text.clone()?;
         self.events.push(Event::Shown { desk, label })?;
-        self.remember(desk, text.clone()?)?;
+        self.shown.insert(desk, text.clone()?)?;
         Ok(Said::Shows { desk, text })
-    }
-
-    fn remember(&mut self, desk: u64, text: String) -> Result<(), Trouble> {
-        for shown in self.shown.iter_mut() {
-            if shown.desk == desk {
-                shown.text = text;
-                return Ok(());
-            }
-        }
-        self.shown.push(Shown { desk, text })?;
-        Ok(())
     }
 
     // What a desk showed last; nothing, if it never showed anything.
     fn last(&self, desk: u64) -> &str {
-        for shown in self.shown.iter() {
-            if shown.desk == desk {
-                return shown.text.as_str();
-            }
-        }
-        ""
+        self.shown.get(&desk).map_or("", |text| text.as_str())
     }
 
     fn send(&mut self, desk: u64, to: u64, name: &str) -> Result<Said, Trouble> {
         match self.play(Item::Makes { from: desk, to })? {
-            Answer::Refused(refusal) => self.refused(desk, refusal),
+            Answer::Refused(refusal) => self.refused(desk, &refusal),
             _ => {
                 let letter = self.room.letters().saturating_sub(1);
                 self.events.push(Event::Made {
@@ -176,51 +147,27 @@ impl Stage {
                     from: desk,
                     to,
                 })?;
-                self.name(name, letter)?;
+                let name = String::from_str(self.heap, name)?;
+                self.letters.insert(name, letter)?;
                 Ok(Said::Nothing)
             }
         }
     }
 
-    // A name is the last letter's that was given it.
-    fn name(&mut self, name: &str, letter: u64) -> Result<(), Trouble> {
-        for named in self.letters.iter_mut() {
-            if named.name.as_str() == name {
-                named.letter = letter;
-                return Ok(());
-            }
-        }
-        let name = String::from_str(self.heap, name)?;
-        self.letters.push(Named { name, letter })?;
-        Ok(())
-    }
-
-    fn named(&self, name: &str) -> Option<u64> {
-        for named in self.letters.iter() {
-            if named.name.as_str() == name {
-                return Some(named.letter);
-            }
-        }
-        None
-    }
-
     // Whether a letter goes from one desk to another.
     fn goes(&self, letter: u64, from: u64, to: u64) -> bool {
-        match self.room.letter(letter) {
-            Some(letter) => letter.from == from && letter.to == to,
-            None => false,
-        }
+        self.room
+            .letter(letter)
+            .is_some_and(|letter| letter.from == from && letter.to == to)
     }
 
     fn read(&mut self, desk: u64, from: u64, name: &str) -> Result<Said, Trouble> {
-        let Some(letter) = self.named(name) else {
-            return Err(Trouble::NoLetter);
-        };
+        let letter = self.letters.get(name).copied().ok_or(Trouble::NoLetter)?;
         if !self.goes(letter, from, desk) {
-            return self.refused(desk, NOT_MINE);
+            return self.refused(desk, &NOT_MINE);
         }
         match self.play(Item::Comes { letter })? {
-            Answer::Refused(refusal) => self.refused(desk, refusal),
+            Answer::Refused(refusal) => self.refused(desk, &refusal),
             _ => {
                 self.events.push(Event::Came { letter })?;
                 Ok(Said::Nothing)

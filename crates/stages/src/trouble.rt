@@ -1,9 +1,10 @@
 // Why a line of a session cannot be played.
 use commands::Fault;
 use std::alloc::{AllocError, AllocFailed};
+use std::error::Error;
 use std::fmt;
 
-#[derive(Drop)]
+#[derive(Debug, Drop, PartialEq, Eq)]
 pub enum Trouble {
     // It says nothing that is known.
     Wrong(Fault),
@@ -35,6 +36,8 @@ impl fmt::Display for Trouble {
         }
     }
 }
+
+impl Error for Trouble {}
 
 impl From<AllocError> for Trouble {
     fn from(_e: AllocError) -> Trouble {

@@ -97,10 +97,8 @@ impl BenchDay {
     }
 
     fn meet(&mut self, one: u64, other: u64) -> Result<(), AllocError> {
-        if let Answer::Met { pairs, bytes } = self
-            .room
-            .play(self.heap, Item::Meets { one, other })?
-        {
+        let item = Item::Meets { one, other };
+        if let Answer::Met { pairs, bytes } = self.room.play(self.heap, item)? {
             self.letters = self.letters.saturating_add(pairs.saturating_mul(2));
             self.bytes = self.bytes.saturating_add(bytes);
         }
@@ -117,12 +115,8 @@ impl BenchDay {
 
     // How many operations are known, at all desks together.
     fn known(&self) -> u64 {
-        let mut sum: u64 = 0;
-        for desk in 0..DESKS {
-            if let Some(known) = self.room.known(desk) {
-                sum = sum.saturating_add(known as u64);
-            }
-        }
-        sum
+        (0..DESKS)
+            .filter_map(|desk| self.room.known(desk))
+            .fold(0, |sum: u64, known| sum.saturating_add(known as u64))
     }
 }

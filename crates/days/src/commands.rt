@@ -21,10 +21,7 @@ const SIGNS: u64 = 26;
 
 fn key(draw: &mut Draw) -> u64 {
     let place = draw.below(KEYS.len() as u64);
-    match KEYS.get(place as usize) {
-        Some(key) => *key,
-        None => 0,
-    }
+    KEYS.get(place as usize).copied().unwrap_or(0)
 }
 
 // A word or an amount.

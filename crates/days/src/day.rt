@@ -35,11 +35,9 @@ const MEETINGS: u64 = 8;
 const LOOKS: u64 = 16;
 
 fn witnesses(heap: Global, count: u64) -> Result<Vec<Witness>, AllocError> {
-    let mut witnesses = Vec::new(heap);
-    for desk in 0..count {
-        witnesses.push(Witness::new(heap, desk))?;
-    }
-    Ok(witnesses)
+    (0..count)
+        .map(|desk| Witness::new(heap, desk))
+        .collect(heap)
 }
 
 impl Day {
@@ -68,12 +66,10 @@ impl Day {
                 Ok(Some(Difference {
                     day: self.number,
                     event: self.summary.events,
-                    desk: mismatch.desk,
-                    expected: mismatch.expected,
-                    shown: mismatch.shown,
+                    mismatch,
                 }))
             }
-            Err(_) => Err(AllocError),
+            Err(Stop::NoMemory | Stop::Missing) => Err(AllocError),
         }
     }
 

@@ -6,9 +6,7 @@ use papers::{Command, Deed};
 use plans::count;
 use simulator::{Answer, Command as Told, Item};
 use std::alloc::AllocError;
-use witnesses::{
-    KEYS, NOT_KNOWN, Row, Sight, Stop, TEXT_IS_KNOWN, Witness, expect, key_shown, seen,
-};
+use witnesses::{KEYS, NOT_KNOWN, Row, Sight, Stop, TEXT_IS_KNOWN, Witness, expect, key_shown};
 
 // Where signs are not known, commands about them are for a text of so many.
 const SIGNS_UNKNOWN: u64 = 6;
@@ -16,20 +14,22 @@ const SIGNS_UNKNOWN: u64 = 6;
 // A letter has to bring all that its writer knew where that is not more than this.
 const SURELY_BROUGHT: usize = 16;
 
+// Where a row is wrong of some desk, what is known of that one.
+fn expect_of(desk: u64, right: &Row, row: &Row, wrong: Option<u64>) -> Result<(), Stop> {
+    match wrong {
+        Some(of) => expect(desk, knows(right, of), knows(row, of)),
+        None => Ok(()),
+    }
+}
+
 // Of no desk more is known than is right.
 fn expect_no_more(desk: u64, most: &Row, row: &Row) -> Result<(), Stop> {
-    match row.first_above(most) {
-        None => Ok(()),
-        Some(of) => expect(desk, knows(most, of), knows(row, of)),
-    }
+    expect_of(desk, most, row, row.first_above(most))
 }
 
 // Of no desk less is known than is right.
 fn expect_no_less(desk: u64, least: &Row, row: &Row) -> Result<(), Stop> {
-    match least.first_above(row) {
-        None => Ok(()),
-        Some(of) => expect(desk, knows(least, of), knows(row, of)),
-    }
+    expect_of(desk, least, row, least.first_above(row))
 }
 
 fn knows(row: &Row, of: u64) -> Sight {
@@ -41,10 +41,11 @@ fn knows(row: &Row, of: u64) -> Sight {
 
 impl Day {
     fn witness(&self, desk: u64) -> Result<&Witness, Stop> {
-        match self.witnesses.get(desk as usize) {
-            Some(witness) => Ok(witness),
-            None => Err(Stop::Missing),
-        }
+        self.witnesses.get(desk as usize).ok_or(Stop::Missing)
+    }
+
+    fn witness_mut(&mut self, desk: u64) -> Result<&mut Witness, Stop> {
+        self.witnesses.get_mut(desk as usize).ok_or(Stop::Missing)
     }
 
     // How many signs a desk shows.
@@ -61,7 +62,7 @@ impl Day {
         count(&mut self.summary.events);
         count(&mut self.summary.compared);
         let answer = self.room.play(self.heap, item)?;
-        expect(desk, expected, seen(answer))?;
+        expect(desk, expected, Sight::from(answer))?;
         Ok(answer)
     }
 
@@ -89,20 +90,16 @@ impl Day {
 
     // A deed was done, and its witness hears of it.
     fn done(&mut self, desk: u64, command: Command, deed: Deed) -> Result<(), Stop> {
-        let Some(witness) = self.witnesses.get_mut(desk as usize) else {
-            return Err(Stop::Missing);
-        };
-        witness.does(self.heap, command, deed)?;
+        let heap = self.heap;
+        self.witness_mut(desk)?.does(heap, command, deed)?;
         self.history.push(deed)?;
         count(&mut self.summary.deeds);
         self.same_row(desk)
     }
 
     fn refused(&mut self, desk: u64, command: Command, refusal: u64) -> Result<(), Stop> {
-        let Some(witness) = self.witnesses.get_mut(desk as usize) else {
-            return Err(Stop::Missing);
-        };
-        witness.refuses(self.heap, command, refusal)?;
+        let heap = self.heap;
+        self.witness_mut(desk)?.refuses(heap, command, refusal)?;
         count(&mut self.summary.refused);
         self.same_row(desk)
     }
@@ -157,11 +154,8 @@ impl Day {
 
     // A letter comes, for the first time or again.
     pub(crate) fn read(&mut self, letter: u64) -> Result<(), Stop> {
-        let Some(mail) = self.post.mails.get(letter as usize) else {
-            return Err(Stop::Missing);
-        };
-        let desk = mail.to;
-        let from = mail.from;
+        let mail = self.post.mails.get(letter as usize).ok_or(Stop::Missing)?;
+        let (desk, from) = (mail.to, mail.from);
         self.lines.push(Line::Reads { desk, from, letter })?;
         self.plays(desk, Item::Comes { letter }, Sight::Done)?;
         count(&mut self.summary.letters_come);
@@ -171,12 +165,8 @@ impl Day {
 
     // What was known is known, what is new the writer knew, and where it knew few, all that it knew is known.
     fn takes_in(&mut self, desk: u64, letter: u64) -> Result<(), Stop> {
-        let Some(mail) = self.post.mails.get(letter as usize) else {
-            return Err(Stop::Missing);
-        };
-        let Some(witness) = self.witnesses.get_mut(desk as usize) else {
-            return Err(Stop::Missing);
-        };
+        let mail = self.post.mails.get(letter as usize).ok_or(Stop::Missing)?;
+        let witness = self.witnesses.get_mut(desk as usize).ok_or(Stop::Missing)?;
         let row = Row::at(&self.room, desk);
         expect_no_less(desk, &witness.row, &row)?;
         expect_no_more(desk, &witness.row.joined(&mail.row), &row)?;
@@ -210,9 +200,7 @@ impl Day {
 
     // A desk knows precisely the deeds of a row.
     fn learns(&mut self, desk: u64, all: Row) -> Result<(), Stop> {
-        let Some(witness) = self.witnesses.get_mut(desk as usize) else {
-            return Err(Stop::Missing);
-        };
+        let witness = self.witnesses.get_mut(desk as usize).ok_or(Stop::Missing)?;
         witness.hears(self.history.as_slice(), all)?;
         self.same_row(desk)
     }
@@ -226,10 +214,7 @@ impl Day {
     }
 
     fn hears_plainly(&mut self, desk: u64, letter: &[Deed]) -> Result<(), Stop> {
-        let Some(witness) = self.witnesses.get_mut(desk as usize) else {
-            return Err(Stop::Missing);
-        };
-        witness.plain.hear(letter)?;
+        self.witness_mut(desk)?.plain.hear(letter)?;
         Ok(())
     }
 
@@ -244,10 +229,7 @@ impl Day {
 
     // The machine knows as many deeds as its paper.
     fn same_count(&mut self, desk: u64) -> Result<(), Stop> {
-        let known = match self.room.known(desk) {
-            Some(known) => known,
-            None => return Err(Stop::Missing),
-        };
+        let known = self.room.known(desk).ok_or(Stop::Missing)?;
         let heard = self.witness(desk)?.paper.len();
         count(&mut self.summary.compared);
         expect(desk, Sight::Count(heard as u64), Sight::Count(known as u64))

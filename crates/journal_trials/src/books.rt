@@ -1,5 +1,5 @@
 // A book of five entries, cut off at every length, and with single bits flipped in every byte.
-use journals::{Entry, Fault, Next, next_entry, write_entry};
+use journals::{Entry, Fault, Flaw, next_entry, write_entry};
 use std::alloc::Global;
 use std::test::Fail;
 
@@ -29,10 +29,6 @@ fn true_entry(k: usize) -> Entry<'static> {
     Entry { kind, a, b, letter }
 }
 
-fn is_same(x: Entry, y: Entry) -> bool {
-    x.kind == y.kind && x.a == y.a && x.b == y.b && x.letter == y.letter
-}
-
 fn written(heap: Global) -> Result<Vec<u8>, Fault> {
     let mut book = Vec::new(heap);
     for k in 0..ENTRIES {
@@ -45,8 +41,7 @@ fn written(heap: Global) -> Result<Vec<u8>, Fault> {
 #[derive(Clone, Copy, Debug, PartialEq)]
 enum Ending {
     End,
-    Torn,
-    Damaged,
+    Flawed(Flaw),
     // An entry that was never written, or too many.
     Wrong,
 }
@@ -55,16 +50,15 @@ enum Ending {
 fn read(book: &[u8]) -> (usize, Ending) {
     let mut left = book;
     for k in 0..ENTRIES + 1 {
-        let (entry, size) = match next_entry(left) {
-            Next::Entry { entry, size } => (entry, size),
-            Next::End => return (k, Ending::End),
-            Next::Torn => return (k, Ending::Torn),
-            Next::Damaged => return (k, Ending::Damaged),
+        let next = match next_entry(left) {
+            Ok(Some(next)) => next,
+            Ok(None) => return (k, Ending::End),
+            Err(flaw) => return (k, Ending::Flawed(flaw)),
         };
-        let Some(rest) = left.get(size..) else {
+        let Some(rest) = left.get(next.size..) else {
             return (k, Ending::Wrong);
         };
-        if k == ENTRIES || !is_same(entry, true_entry(k)) {
+        if k == ENTRIES || next.entry != true_entry(k) {
             return (k, Ending::Wrong);
         }
         left = rest;
@@ -87,14 +81,17 @@ fn whole_within(n: usize) -> (usize, bool) {
 
 // At how many lengths in a row, from 0 on, the cut book gives the whole entries and ends as it should.
 fn good_cuts(book: &[u8]) -> usize {
-    for n in 0..book.len() {
-        let (entries, at_end) = whole_within(n);
-        let ending = if at_end { Ending::End } else { Ending::Torn };
-        if read(&book[..n]) != (entries, ending) {
-            return n;
-        }
-    }
-    book.len()
+    (0..book.len())
+        .take_while(|&n| {
+            let (entries, at_end) = whole_within(n);
+            let ending = if at_end {
+                Ending::End
+            } else {
+                Ending::Flawed(Flaw::Torn)
+            };
+            read(&book[..n]) == (entries, ending)
+        })
+        .count()
 }
 
 // At how many bytes in a row flipped bits are seen as damage, right behind the entries before.
@@ -102,7 +99,7 @@ fn good_flips(book: &mut [u8], bits: u8) -> usize {
     for i in 0..book.len() {
         book[i] ^= bits;
         let (entries, _) = whole_within(i);
-        if read(book) != (entries, Ending::Damaged) {
+        if read(book) != (entries, Ending::Flawed(Flaw::Damaged)) {
             return i;
         }
         book[i] ^= bits;

@@ -1,38 +1,30 @@
 // Headers: of every desk, cut off, of another version, and damaged.
-use journals::{Opening, header, read_header};
+use journals::HeaderFault::{self, Damaged, NotABook, OtherVersion};
+use journals::{header, read_header};
 
 const DESKS: u8 = 32;
 
-// What a header is read as: a desk, or 100 for no book, 200 for another version, 255 for damage.
-fn opened(bytes: &[u8]) -> u8 {
-    match read_header(bytes) {
-        Opening::Book { desk } => desk,
-        Opening::NotABook => 100,
-        Opening::OtherVersion(_) => 200,
-        Opening::Damaged => 255,
-    }
-}
-
 // How many desks in a row have their headers read again.
-fn good_desks() -> u8 {
-    for desk in 0..DESKS {
-        if opened(&header(desk)) != desk {
-            return desk;
-        }
-    }
-    DESKS
+fn good_desks() -> usize {
+    (0..DESKS)
+        .take_while(|&desk| read_header(&header(desk)) == Ok(desk))
+        .count()
 }
 
-// At how many bytes in a row a flipped bit leaves no book: in its title, its version, and the rest.
+// What a header is with bits flipped in this byte of it.
+fn flaw(byte: usize, flipped: u8) -> HeaderFault {
+    match byte {
+        0..=3 => NotABook,
+        4 => OtherVersion(flipped),
+        _ => Damaged,
+    }
+}
+
+// At how many bytes in a row flipped bits leave no book: in its title, its version, and the rest.
 fn good_flips(bytes: &mut [u8], bits: u8) -> usize {
     for i in 0..bytes.len() {
         bytes[i] ^= bits;
-        let expected = match i {
-            0..=3 => 100,
-            4 => 200,
-            _ => 255,
-        };
-        if opened(bytes) != expected {
+        if read_header(bytes) != Err(flaw(i, bytes[i])) {
             return i;
         }
         bytes[i] ^= bits;
@@ -47,14 +39,17 @@ fn a_header_byte_by_byte(rt: HostRuntime) {
 
 #[test]
 fn headers_are_read_again(rt: HostRuntime) {
-    assert_eq!(rt; good_desks(), DESKS);
-    assert_eq!(rt; opened(&header(DESKS)), 255, "there is no such desk");
+    assert_eq!(rt; good_desks(), usize::from(DESKS));
+    assert!(rt;
+        read_header(&header(DESKS)) == Err(Damaged),
+        "there is no such desk"
+    );
 }
 
 #[test]
 fn damaged_headers_are_none(rt: HostRuntime) {
     assert_eq!(rt; good_flips(&mut header(7), 0x01), 12);
     assert_eq!(rt; good_flips(&mut header(31), 0x80), 12);
-    assert_eq!(rt; opened(&header(7)[..11]), 100);
-    assert_eq!(rt; opened(b""), 100);
+    assert!(rt; read_header(&header(7)[..11]) == Err(NotABook));
+    assert!(rt; read_header(b"") == Err(NotABook));
 }

@@ -1,5 +1,5 @@
 // The bytes of an entry, computed by another program; and the longest letter.
-use journals::{Entry, Fault, Next, next_entry, write_entry};
+use journals::{Entry, Fault, next_entry, write_entry};
 use std::alloc::{AllocError, Global};
 use std::test::Fail;
 
@@ -33,7 +33,7 @@ fn size_with(heap: Global, letter_size: usize) -> Result<usize, AllocError> {
     };
     match write_entry(heap, entry) {
         Ok(bytes) => match next_entry(&bytes) {
-            Next::Entry { entry: _, size } => Ok(size),
+            Ok(Some(next)) => Ok(next.size),
             _ => Err(AllocError),
         },
         Err(Fault::TooLong) => Ok(0),

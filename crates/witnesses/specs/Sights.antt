@@ -1,8 +1,10 @@
--- What is seen under a key is the plain paper's for some deeds.
+-- What is seen of an answer; and that what is seen under a key is the plain paper's for some deeds.
 use Rattle.std.specs.Prelude.{◌≡◌, ℕ, List}
 use Rattle.std.specs.Option.{option_to_list}
 use Rattle.ops.specs.Doc as doc
 use Rattle.ops.specs.Doc.{word_at, count_at}
+use Rattle.simulator.specs.declared.room.Answer.{Answer}
+use Rattle.simulator.specs.declared.room.Answer.TheVariants as answer
 use Rattle.witnesses.specs.declared.sights.Sight.{Sight}
 use Rattle.witnesses.specs.declared.sights.Sight.TheVariants.{Done, Met, Refused, Key, Knows, Count}
 
@@ -13,3 +15,9 @@ KeyOf ops k (Refused n) = ⊥
 KeyOf ops k (Key word tally) = (option_to_list word ≡ word_at ops k) × (tally ≡ count_at ops k)
 KeyOf ops k (Knows of number) = ⊥
 KeyOf ops k (Count n) = ⊥
+
+abbrev pub seen : Answer → Sight
+seen answer.Done = Done
+seen (answer.Key k) = Key k.word k.tally
+seen (answer.Met pairs bytes) = Met
+seen (answer.Refused n) = Refused n

@@ -6,24 +6,11 @@ use crate::faults::Mismatch;
 use crate::sights::Sight;
 use papers::Paper;
 use plain_desks::PlainDesk;
-use simulator::{Answer, Command, Item, Room};
+use simulator::{Command, Item, Room};
 use std::alloc::{AllocError, Global};
 
 // The keys that are used, the first and the last that there can be among them.
 pub const KEYS: [u64; 4] = [0, 1, 7, 4_294_967_295];
-
-// What an answer of the room is.
-pub fn seen(answer: Answer) -> Sight {
-    match answer {
-        Answer::Done => Sight::Done,
-        Answer::Key(key) => Sight::Key {
-            word: key.word,
-            tally: u128::from(key.tally),
-        },
-        Answer::Met { .. } => Sight::Met,
-        Answer::Refused(refusal) => Sight::Refused(refusal),
-    }
-}
 
 // What a paper says under a key.
 pub fn key_on_paper(paper: &Paper, key: u64) -> Sight
@@ -49,7 +36,7 @@ pub fn key_shown(heap: Global, room: &mut Room, desk: u64, key: u64) -> Result<S
         desk,
         command: Command::ShowKey(key),
     };
-    Ok(seen(room.play(heap, item)?))
+    Ok(Sight::from(room.play(heap, item)?))
 }
 
 // Where a desk shows something else under a key than a paper says.
@@ -62,12 +49,5 @@ pub fn compare_key(
 ) -> Result<Option<Mismatch>, AllocError> {
     let expected = key_on_paper(paper, key);
     let shown = key_shown(heap, room, desk, key)?;
-    if expected == shown {
-        return Ok(None);
-    }
-    Ok(Some(Mismatch {
-        desk,
-        expected,
-        shown,
-    }))
+    Ok(Mismatch::between(desk, expected, shown))
 }

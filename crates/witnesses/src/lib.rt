@@ -12,7 +12,7 @@ mod sights;
 mod witness;
 
 pub use commands::told;
-pub use compare::{KEYS, compare_key, key_on_paper, key_shown, seen};
+pub use compare::{KEYS, compare_key, key_on_paper, key_shown};
 pub use faults::{Mismatch, Stop, expect};
 pub use rows::Row;
 pub use sights::{Difference, Sight};

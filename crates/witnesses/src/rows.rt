@@ -4,12 +4,13 @@ ghost use Rattle.witnesses.specs.Rows.{number_of, with_name, Joins, Above};
 
 use papers::Name;
 use simulator::Room;
+use std::array;
 
 const DESKS: usize = 32;
 
 #[derive(Clone, Copy)]
 pub struct Row {
-    numbers: [u64; 32],
+    numbers: [u64; DESKS],
 }
 
 impl Row {
@@ -21,10 +22,7 @@ impl Row {
 
     // What the machine of a desk says that it knows.
     pub fn at(room: &Room, desk: u64) -> Row {
-        let mut numbers = [0; DESKS];
-        for of in 0..DESKS {
-            numbers[of] = room.version(desk, of as u64);
-        }
+        let numbers = array::from_fn(|of| room.version(desk, of as u64));
         Row { numbers }
     }
 
@@ -32,10 +30,7 @@ impl Row {
     pub fn of(&self, desk: u64) -> u64
         ensures { result ≡ number_of self.now.numbers desk }
     {
-        if desk >= DESKS as u64 {
-            return 0;
-        }
-        self.numbers[desk as usize]
+        self.numbers.get(desk as usize).copied().unwrap_or(0)
     }
 
     // Whether the deed of a name is known.
@@ -62,10 +57,7 @@ impl Row {
     pub fn joined(&self, other: &Row) -> Row
         ensures { Joins self.now.numbers other.now.numbers result.numbers 32 }
     {
-        let mut numbers = self.numbers;
-        for of in 0..DESKS {
-            numbers[of] = numbers[of].max(other.numbers[of]);
-        }
+        let numbers = array::from_fn(|of| self.numbers[of].max(other.numbers[of]));
         Row { numbers }
     }
 
@@ -73,11 +65,9 @@ impl Row {
     pub fn first_above(&self, other: &Row) -> Option<u64>
         ensures { Above self.now.numbers other.now.numbers result }
     {
-        for of in 0..DESKS {
-            if self.numbers[of] > other.numbers[of] {
-                return Some(of as u64);
-            }
-        }
-        None
+        let mut pairs = self.numbers.iter().zip(&other.numbers);
+        pairs
+            .position(|(mine, theirs)| mine > theirs)
+            .map(|of| of as u64)
     }
 }

@@ -1,4 +1,12 @@
 // What can be seen of a desk, and a difference between what should be seen and what is.
+ghost use Rattle.std.specs.Prelude.{◌≡◌};
+ghost use Rattle.papers.specs.Refusals.{number_of};
+ghost use Rattle.witnesses.specs.declared.sights.Sight.TheVariants.{Refused};
+ghost use Rattle.witnesses.specs.Sights.{seen};
+
+use crate::faults::Mismatch;
+use papers::Refusal;
+use simulator::Answer;
 use std::fmt;
 
 #[derive(Clone, Copy, PartialEq, Eq, Debug)]
@@ -13,6 +21,31 @@ pub enum Sight {
     Knows { of: u64, number: u64 },
     // So many deeds are known in all.
     Count(u64),
+}
+
+// What an answer of the room is.
+impl From<Answer> for Sight {
+    ghost from_gives = { λ answer sight. sight ≡ seen answer };
+
+    fn from(answer: Answer) -> Sight {
+        match answer {
+            Answer::Done => Sight::Done,
+            Answer::Key(key) => Sight::Key {
+                word: key.word,
+                tally: u128::from(key.tally),
+            },
+            Answer::Met { .. } => Sight::Met,
+            Answer::Refused(refusal) => Sight::Refused(refusal),
+        }
+    }
+}
+
+impl From<Refusal> for Sight {
+    ghost from_gives = { λ refusal sight. sight ≡ Refused (number_of refusal) };
+
+    fn from(refusal: Refusal) -> Sight {
+        Sight::Refused(u64::from(refusal))
+    }
 }
 
 // A word, where there is one, and then the tally.
@@ -40,24 +73,26 @@ impl fmt::Display for Sight {
     }
 }
 
-// At a desk something else was seen than was expected.
+// A mismatch, and when it was seen.
 #[derive(Clone, Copy)]
 pub struct Difference {
     pub day: u64,
     // How many events there were in the day until then.
     pub event: u64,
-    pub desk: u64,
-    pub expected: Sight,
-    pub shown: Sight,
+    pub mismatch: Mismatch,
 }
 
 impl fmt::Display for Difference {
     fn fmt<W: fmt::Write>(&self, f: &mut fmt::Formatter<W>) -> fmt::Result {
-        let day = self.day;
-        let event = self.event;
-        let desk = self.desk;
-        let expected = self.expected;
-        let shown = self.shown;
+        let Difference {
+            day,
+            event,
+            mismatch: Mismatch {
+                desk,
+                expected,
+                shown,
+            },
+        } = *self;
         write!(
             f,
             "day {day}, event {event}, desk {desk}: expected {expected}, shown {shown}"

@@ -4,7 +4,7 @@ use crate::faults::{Stop, expect};
 use crate::rows::Row;
 use crate::sights::Sight;
 use papers::{Command, Deed, Paper};
-use plain_desks::PlainDesk;
+use plain_desks::{Fault, PlainDesk};
 use std::alloc::{AllocError, Global};
 
 // Whether machines know signs in a row. As long as they do not, a command about signs is refused.
@@ -22,12 +22,9 @@ pub struct Witness {
     pub row: Row,
 }
 
-// Whether a command is about signs.
-fn is_about_text(command: Command) -> bool {
-    match command {
-        Command::Insert { .. } | Command::Strike { .. } => true,
-        _ => false,
-    }
+// Whether a machine does not know a command.
+fn is_unknown(command: Command) -> bool {
+    !TEXT_IS_KNOWN && matches!(command, Command::Insert { .. } | Command::Strike { .. })
 }
 
 impl Witness {
@@ -42,10 +39,10 @@ impl Witness {
 
     // The deed that a command should make, or the number of its refusal.
     pub fn expected(&self, command: Command) -> Result<Deed, u64> {
-        if is_about_text(command) && !TEXT_IS_KNOWN {
+        if is_unknown(command) {
             return Err(NOT_KNOWN);
         }
-        self.paper.deed(self.desk, command)
+        Ok(self.paper.deed(self.desk, command)?)
     }
 
     // A plain letter brings all, and a machine's only what fits, so the plain desk may know more than the paper; never less.
@@ -55,15 +52,20 @@ impl Witness {
 
     // What the plain desk says under a key, where it knows what the paper knows.
     pub fn plain_key(&self, key: u64) -> Option<Sight> {
-        if self.is_level() {
-            Some(key_on_plain(&self.plain, key))
-        } else {
-            None
-        }
+        self.is_level().then(|| key_on_plain(&self.plain, key))
     }
 
     pub fn paper_key(&self, key: u64) -> Sight {
         key_on_paper(&self.paper, key)
+    }
+
+    // What is seen of a command at the plain desk.
+    fn plain_answer(&mut self, heap: Global, command: Command) -> Result<Sight, Stop> {
+        match self.plain.does(heap, command) {
+            Ok(()) => Ok(Sight::Done),
+            Err(Fault::Refused(refusal)) => Ok(Sight::from(refusal)),
+            Err(Fault::NoMemory) => Err(Stop::NoMemory),
+        }
     }
 
     // The plain desk does a command of which this deed should come. Where it knows more it would find another name, and hears of the deed instead.
@@ -72,8 +74,8 @@ impl Witness {
             self.plain.hear(&[deed])?;
             return Ok(());
         }
-        let answer = self.plain.does(heap, command)?;
-        expect(self.desk, Sight::Done, sight_of(answer))?;
+        let answer = self.plain_answer(heap, command)?;
+        expect(self.desk, Sight::Done, answer)?;
         let knows = self.plain.knows(deed.name);
         expect(self.desk, known(deed, true), known(deed, knows))
     }
@@ -88,11 +90,11 @@ impl Witness {
 
     // The desk refused a command with this number; the plain desk must, too.
     pub fn refuses(&mut self, heap: Global, command: Command, refusal: u64) -> Result<(), Stop> {
-        if is_about_text(command) && !TEXT_IS_KNOWN {
+        if is_unknown(command) {
             return Ok(());
         }
-        let answer = self.plain.does(heap, command)?;
-        expect(self.desk, Sight::Refused(refusal), sight_of(answer))
+        let answer = self.plain_answer(heap, command)?;
+        expect(self.desk, Sight::Refused(refusal), answer)
     }
 
     // The desk now knows the deeds of a row: the paper hears of those that are new to it, in the order in which they were done.
@@ -104,13 +106,6 @@ impl Witness {
         }
         self.row = row;
         Ok(())
-    }
-}
-
-fn sight_of(answer: Result<(), u64>) -> Sight {
-    match answer {
-        Ok(()) => Sight::Done,
-        Err(refusal) => Sight::Refused(refusal),
     }
 }
 

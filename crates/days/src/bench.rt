@@ -90,7 +90,7 @@ impl BenchDay {
             desk,
             command: Command::Do(deed),
         };
-        if let Answer::Done = self.room.play(self.heap, item)? {
+        if let Ok(Answer::Done) = self.room.play(self.heap, item)? {
             self.deeds = self.deeds.saturating_add(1);
         }
         Ok(())
@@ -98,7 +98,7 @@ impl BenchDay {
 
     fn meet(&mut self, one: u64, other: u64) -> Result<(), AllocError> {
         let item = Item::Meets { one, other };
-        if let Answer::Met { pairs, bytes } = self.room.play(self.heap, item)? {
+        if let Ok(Answer::Met { pairs, bytes }) = self.room.play(self.heap, item)? {
             self.letters = self.letters.saturating_add(pairs.saturating_mul(2));
             self.bytes = self.bytes.saturating_add(bytes);
         }

@@ -2,11 +2,15 @@
 use crate::day::Day;
 use crate::lines::Line;
 use crate::post::Mail;
+use desks::Refusal;
 use papers::{Command, Deed};
 use plans::count;
 use simulator::{Answer, Command as Told, Item};
 use std::alloc::AllocError;
-use witnesses::{KEYS, NOT_KNOWN, Row, Sight, Stop, TEXT_IS_KNOWN, Witness, expect, key_shown};
+use witnesses::{KEYS, Row, Sight, Stop, TEXT_IS_KNOWN, Witness, expect, key_shown};
+
+// What comes of an item in the room.
+type Outcome = Result<Answer, Refusal>;
 
 // Where signs are not known, commands about them are for a text of so many.
 const SIGNS_UNKNOWN: u64 = 6;
@@ -58,12 +62,12 @@ impl Day {
     }
 
     // An item is played, and answered with this.
-    fn plays(&mut self, desk: u64, item: Item, expected: Sight) -> Result<Answer, Stop> {
+    fn plays(&mut self, desk: u64, item: Item, expected: Sight) -> Result<Outcome, Stop> {
         count(&mut self.summary.events);
         count(&mut self.summary.compared);
-        let answer = self.room.play(self.heap, item)?;
-        expect(desk, expected, Sight::from(answer))?;
-        Ok(answer)
+        let outcome = self.room.play(self.heap, item)?;
+        expect(desk, expected, Sight::from(outcome))?;
+        Ok(outcome)
     }
 
     // A command at a desk.
@@ -78,11 +82,10 @@ impl Day {
                 self.plays(desk, item, Sight::Done)?;
                 self.done(desk, command, deed)?;
             }
-            Err(refusal) => {
-                let sight = Sight::Refused(refusal);
+            Err(sight) => {
                 self.lines.push(Line::Expects { desk, sight })?;
                 self.plays(desk, item, sight)?;
-                self.refused(desk, command, refusal)?;
+                self.refused(desk, command, sight)?;
             }
         }
         self.compare(desk)
@@ -97,7 +100,7 @@ impl Day {
         self.same_row(desk)
     }
 
-    fn refused(&mut self, desk: u64, command: Command, refusal: u64) -> Result<(), Stop> {
+    fn refused(&mut self, desk: u64, command: Command, refusal: Sight) -> Result<(), Stop> {
         let heap = self.heap;
         self.witness_mut(desk)?.refuses(heap, command, refusal)?;
         count(&mut self.summary.refused);
@@ -106,7 +109,7 @@ impl Day {
 
     // Somebody looks at the text.
     pub(crate) fn look(&mut self, desk: u64) -> Result<(), Stop> {
-        let sight = Sight::Refused(NOT_KNOWN);
+        let sight = Sight::from(Refusal::Unknown);
         let item = Item::At {
             desk,
             command: Told::ShowText,
@@ -191,9 +194,9 @@ impl Day {
         self.compare(other)
     }
 
-    fn count_meeting(&mut self, answer: Answer) {
+    fn count_meeting(&mut self, outcome: Outcome) {
         count(&mut self.summary.meetings);
-        if let Answer::Met { pairs: _, bytes } = answer {
+        if let Ok(Answer::Met { pairs: _, bytes }) = outcome {
             self.summary.meeting_bytes = self.summary.meeting_bytes.saturating_add(bytes);
         }
     }

@@ -1,20 +1,17 @@
 // A stage: a room, the names that the session gave its letters, and what each desk showed last.
 use crate::trouble::Trouble;
 use commands::Command;
+use desks::Refusal;
 use pictures::Event;
 use replicas::Deed;
 use sessions::Line;
 use simulator::{Answer, Item, Room};
 use std::alloc::Global;
 use std::collections::BTreeMap;
-use std::fmt;
 
 const DESKS: u64 = 32;
 
 const VERSION: u64 = 1;
-
-// How a letter of others is refused.
-const NOT_MINE: u64 = 1;
 
 // What comes of a line.
 #[derive(Debug, Drop, PartialEq, Eq)]
@@ -90,7 +87,7 @@ impl Stage {
         }
     }
 
-    fn play(&mut self, item: Item) -> Result<Answer, Trouble> {
+    fn play(&mut self, item: Item) -> Result<Result<Answer, Refusal>, Trouble> {
         Ok(self.room.play(self.heap, item)?)
     }
 
@@ -101,8 +98,8 @@ impl Stage {
             command: simulator::Command::Do(deed),
         };
         match self.play(item)? {
-            Answer::Refused(refusal) => self.refused(desk, &refusal),
-            _ => {
+            Err(refusal) => self.refused(desk, refusal),
+            Ok(_) => {
                 self.events.push(Event::Deed { desk, label })?;
                 Ok(Said::Nothing)
             }
@@ -111,16 +108,16 @@ impl Stage {
 
     fn ask(&mut self, desk: u64, command: simulator::Command) -> Result<Said, Trouble> {
         match self.play(Item::At { desk, command })? {
-            Answer::Key(key) => {
+            Ok(Answer::Key(key)) => {
                 let text = answers::key_answer(self.heap, key.word, key.tally)?;
                 self.shows(desk, text)
             }
-            Answer::Refused(refusal) => self.refused(desk, &refusal),
-            _ => Err(Trouble::NoAnswer),
+            Err(refusal) => self.refused(desk, refusal),
+            Ok(_) => Err(Trouble::NoAnswer),
         }
     }
 
-    fn refused(&mut self, desk: u64, refusal: &impl fmt::Display) -> Result<Said, Trouble> {
+    fn refused(&mut self, desk: u64, refusal: Refusal) -> Result<Said, Trouble> {
         let text = format!(in self.heap; "refused {refusal}")?;
         self.shows(desk, text)
     }
@@ -139,8 +136,8 @@ impl Stage {
 
     fn send(&mut self, desk: u64, to: u64, name: &str) -> Result<Said, Trouble> {
         match self.play(Item::Makes { from: desk, to })? {
-            Answer::Refused(refusal) => self.refused(desk, &refusal),
-            _ => {
+            Err(refusal) => self.refused(desk, refusal),
+            Ok(_) => {
                 let letter = self.room.letters().saturating_sub(1);
                 self.events.push(Event::Made {
                     letter,
@@ -164,11 +161,12 @@ impl Stage {
     fn read(&mut self, desk: u64, from: u64, name: &str) -> Result<Said, Trouble> {
         let letter = self.letters.get(name).copied().ok_or(Trouble::NoLetter)?;
         if !self.goes(letter, from, desk) {
-            return self.refused(desk, &NOT_MINE);
+            // a letter of others, or for others
+            return self.refused(desk, Refusal::Malformed);
         }
         match self.play(Item::Comes { letter })? {
-            Answer::Refused(refusal) => self.refused(desk, &refusal),
-            _ => {
+            Err(refusal) => self.refused(desk, refusal),
+            Ok(_) => {
                 self.events.push(Event::Came { letter })?;
                 Ok(Said::Nothing)
             }
@@ -177,7 +175,7 @@ impl Stage {
 
     fn meet(&mut self, one: u64, other: u64) -> Result<Said, Trouble> {
         match self.play(Item::Meets { one, other })? {
-            Answer::Met { .. } => {
+            Ok(Answer::Met { .. }) => {
                 self.events.push(Event::Met { one, other })?;
                 Ok(Said::Nothing)
             }

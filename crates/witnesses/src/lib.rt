@@ -16,4 +16,4 @@ pub use compare::{KEYS, compare_key, key_on_paper, key_shown};
 pub use faults::{Mismatch, Stop, expect};
 pub use rows::Row;
 pub use sights::{Difference, Sight};
-pub use witness::{NOT_KNOWN, TEXT_IS_KNOWN, Witness};
+pub use witness::{TEXT_IS_KNOWN, Witness};

@@ -1,11 +1,12 @@
 // What can be seen of a desk, and a difference between what should be seen and what is.
 ghost use Rattle.std.specs.Prelude.{◌≡◌};
-ghost use Rattle.papers.specs.Refusals.{number_of};
+ghost use Rattle.desks.specs.Refusals.{number_of};
+ghost use Rattle.papers.specs.Refusals.{number_of as number_on_paper};
 ghost use Rattle.witnesses.specs.declared.sights.Sight.TheVariants.{Refused};
-ghost use Rattle.witnesses.specs.Sights.{seen};
+ghost use Rattle.witnesses.specs.Sights.{answered, seen};
 
 use crate::faults::Mismatch;
-use papers::Refusal;
+use desks::Refusal;
 use simulator::Answer;
 use std::fmt;
 
@@ -23,9 +24,8 @@ pub enum Sight {
     Count(u64),
 }
 
-// What an answer of the room is.
 impl From<Answer> for Sight {
-    ghost from_gives = { λ answer sight. sight ≡ seen answer };
+    ghost from_gives = { λ answer sight. sight ≡ answered answer };
 
     fn from(answer: Answer) -> Sight {
         match answer {
@@ -35,16 +35,37 @@ impl From<Answer> for Sight {
                 tally: u128::from(key.tally),
             },
             Answer::Met { .. } => Sight::Met,
-            Answer::Refused(refusal) => Sight::Refused(refusal),
         }
     }
 }
 
+// The machine's refusals and the paper's meet here as the numbers that both stand for.
 impl From<Refusal> for Sight {
     ghost from_gives = { λ refusal sight. sight ≡ Refused (number_of refusal) };
 
     fn from(refusal: Refusal) -> Sight {
+        let number = u64::from(refusal);
+        Sight::Refused(number)
+    }
+}
+
+impl From<papers::Refusal> for Sight {
+    ghost from_gives = { λ refusal sight. sight ≡ Refused (number_on_paper refusal) };
+
+    fn from(refusal: papers::Refusal) -> Sight {
         Sight::Refused(u64::from(refusal))
+    }
+}
+
+// What came of an item in the room.
+impl From<Result<Answer, Refusal>> for Sight {
+    ghost from_gives = { λ outcome sight. sight ≡ seen outcome };
+
+    fn from(outcome: Result<Answer, Refusal>) -> Sight {
+        match outcome {
+            Ok(answer) => Sight::from(answer),
+            Err(refusal) => Sight::from(refusal),
+        }
     }
 }
 

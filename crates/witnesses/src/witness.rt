@@ -3,15 +3,13 @@ use crate::compare::{key_on_paper, key_on_plain};
 use crate::faults::{Stop, expect};
 use crate::rows::Row;
 use crate::sights::Sight;
+use desks::Refusal;
 use papers::{Command, Deed, Paper};
 use plain_desks::{Fault, PlainDesk};
 use std::alloc::{AllocError, Global};
 
 // Whether machines know signs in a row. As long as they do not, a command about signs is refused.
 pub const TEXT_IS_KNOWN: bool = false;
-
-// How what is not known is refused.
-pub const NOT_KNOWN: u64 = 2;
 
 #[derive(Drop)]
 pub struct Witness {
@@ -37,10 +35,10 @@ impl Witness {
         }
     }
 
-    // The deed that a command should make, or the number of its refusal.
-    pub fn expected(&self, command: Command) -> Result<Deed, u64> {
+    // The deed that a command should make, or what should be seen of its refusal.
+    pub fn expected(&self, command: Command) -> Result<Deed, Sight> {
         if is_unknown(command) {
-            return Err(NOT_KNOWN);
+            return Err(Sight::from(Refusal::Unknown));
         }
         Ok(self.paper.deed(self.desk, command)?)
     }
@@ -88,13 +86,13 @@ impl Witness {
         Ok(())
     }
 
-    // The desk refused a command with this number; the plain desk must, too.
-    pub fn refuses(&mut self, heap: Global, command: Command, refusal: u64) -> Result<(), Stop> {
+    // The desk refused a command so; the plain desk must, too.
+    pub fn refuses(&mut self, heap: Global, command: Command, refusal: Sight) -> Result<(), Stop> {
         if is_unknown(command) {
             return Ok(());
         }
         let answer = self.plain_answer(heap, command)?;
-        expect(self.desk, Sight::Refused(refusal), answer)
+        expect(self.desk, refusal, answer)
     }
 
     // The desk now knows the deeds of a row: the paper hears of those that are new to it, in the order in which they were done.

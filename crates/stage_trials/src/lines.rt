@@ -19,9 +19,7 @@ fn sign(said: Result<Said, Trouble>) -> char {
 
 // Whether each line gives its sign; the first that does not is named.
 fn play(rt: &HostRuntime, lines: &[(&str, char)]) -> Result<(), Fail> {
-    let Ok(mut stage) = Stage::new(rt.alloc()) else {
-        return Err(Fail::new("no stage"));
-    };
+    let mut stage = Stage::new(rt.alloc())?;
     for (line, expected) in lines {
         if sign(stage.line(line)) != *expected {
             return Err(Fail::new(*line));

@@ -66,13 +66,13 @@ fn a_difference_is_found(rt: HostRuntime) -> Result<(), Fail> {
         command: told,
     };
     room.play(heap, item)?;
-    paper.hear(paper.deed(0, add).ok().ok_or("refused")?)?;
+    paper.hear(paper.deed(0, add).map_err(|_refusal| "refused")?)?;
     assert!(rt;
         compare_key(heap, &mut room, 0, &paper, 1)?.is_none(),
         "both know one deed"
     );
     let more = Command::Add { key: 1, amount: 2 };
-    paper.hear(paper.deed(0, more).ok().ok_or("refused")?)?;
+    paper.hear(paper.deed(0, more).map_err(|_refusal| "refused")?)?;
     let found = compare_key(heap, &mut room, 0, &paper, 1)?.ok_or("no difference")?;
     let expected = Sight::Key {
         word: None,

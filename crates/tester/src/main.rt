@@ -26,13 +26,8 @@ const VERSION: &str = "tester 0.3.0 (letters 1, sessions 1)";
 
 // What is asked for by the words after the program's name.
 fn wanted(rt: &HostRuntime) -> Result<Option<Asked>, Trouble> {
-    let mut words = env::args(rt)?;
-    let _program = words.next();
-    let mut all = Vec::new(rt.alloc());
-    for word in words {
-        all.push(word)?;
-    }
-    Ok(days::asked_for(all.as_slice()))
+    let words: Vec<String> = env::args(rt)?.skip(1).collect(rt.alloc())?;
+    Ok(days::asked_for(words.as_slice()))
 }
 
 fn obey(rt: &HostRuntime) -> Result<(), Trouble> {
@@ -49,11 +44,9 @@ fn obey(rt: &HostRuntime) -> Result<(), Trouble> {
 }
 
 fn main(rt: HostRuntime) -> Result<(), Trouble> {
-    match obey(&rt) {
-        Ok(()) => Ok(()),
-        Err(trouble) => {
-            eprintln!(rt; "tester: {trouble}")?;
-            Err(trouble)
-        }
+    let done = obey(&rt);
+    if let Err(trouble) = &done {
+        eprintln!(rt; "tester: {trouble}")?;
     }
+    done
 }

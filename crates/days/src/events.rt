@@ -61,13 +61,17 @@ impl Day {
         Ok(text.len() as u64)
     }
 
-    // An item is played, and answered with this.
-    fn plays(&mut self, desk: u64, item: Item, expected: Sight) -> Result<Outcome, Stop> {
+    // What comes of an item that is played.
+    fn outcome(&mut self, item: Item) -> Result<Outcome, Stop> {
         count(&mut self.summary.events);
         count(&mut self.summary.compared);
-        let outcome = self.room.play(self.heap, item)?;
-        expect(desk, expected, Sight::from(outcome))?;
-        Ok(outcome)
+        Ok(self.room.play(self.heap, item)?)
+    }
+
+    // An item is played, and answered with this.
+    fn plays(&mut self, desk: u64, item: Item, expected: Sight) -> Result<(), Stop> {
+        let outcome = self.outcome(item)?;
+        expect(desk, expected, Sight::from(outcome))
     }
 
     // A command at a desk.
@@ -185,8 +189,9 @@ impl Day {
     pub(crate) fn meet(&mut self, one: u64, other: u64) -> Result<(), Stop> {
         self.lines.push(Line::Meets { one, other })?;
         let all = self.witness(one)?.row.joined(&self.witness(other)?.row);
-        let answer = self.plays(one, Item::Meets { one, other }, Sight::Met)?;
-        self.count_meeting(answer);
+        let outcome = self.outcome(Item::Meets { one, other })?;
+        expect(one, Sight::Met, Sight::from(outcome))?;
+        self.count_meeting(outcome);
         self.learns(one, all)?;
         self.learns(other, all)?;
         self.meet_plainly(one, other)?;

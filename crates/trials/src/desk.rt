@@ -1,36 +1,29 @@
 // A desk with its memory and the buffers that it is lent, as the tests use it; and desks that meet.
-use desks::{MEMORY_SIZE, MOST_BYTES, MOST_SHOWN, Told};
+use desks::{MEMORY_SIZE, MOST_BYTES, MOST_SHOWN, Refusal, Told};
+use ops::layout::{DESKS, LENGTH, VERSION};
 use std::alloc::{AllocError, Global};
 
-// The kinds of what a desk is told.
-pub const OPEN: u64 = 0;
-
-pub const WRITE: u64 = 3;
-
-pub const ADD: u64 = 4;
-
-pub const SHOW_KEY: u64 = 6;
-
-pub const SEND: u64 = 7;
-
-pub const READ: u64 = 8;
-
-pub const GO_ON: u64 = 9;
-
-// Where a desk's memory has how many operations it knows, and the highest number of each desk's.
-const KNOWN: usize = 3;
-
-const VERSIONS: usize = 32;
-
-const MOST_DESKS: usize = 32;
+// What a desk is told, which knows it by its number.
+#[derive(Clone, Copy)]
+pub enum Kind {
+    Open,
+    Insert,
+    Strike,
+    Write,
+    Add,
+    ShowText,
+    ShowKey,
+    Send,
+    Read,
+    GoOn,
+    // One more than there are.
+    NoKind,
+}
 
 // What stands in the buffers before a desk writes there, which is nothing that a test makes it write.
 const UNTOUCHED: u64 = 987_654_321;
 
 const UNTOUCHED_BYTE: u8 = 0xA5;
-
-// What stands for a number that should be shown and isn't.
-const NOT_SHOWN: u64 = u64::MAX;
 
 // More pairs of letters than two desks need, however much each knows.
 const MOST_PAIRS: u64 = 100;
@@ -71,7 +64,7 @@ impl Desk {
 
     pub fn opened(heap: Global, number: u64) -> Result<Desk, AllocError> {
         let mut desk = Desk::closed(heap, number)?;
-        desk.tell(OPEN, number, 0, &[]);
+        desk.tell(Kind::Open, number, 0, &[]);
         Ok(desk)
     }
 
@@ -94,10 +87,10 @@ impl Desk {
     }
 
     // One step.
-    pub fn tell(&mut self, kind: u64, a: u64, b: u64, letter: &[u8]) -> Told {
+    pub fn tell(&mut self, kind: Kind, a: u64, b: u64, letter: &[u8]) -> Told {
         desks::step(
             &mut self.memory,
-            kind,
+            kind as u64,
             a,
             b,
             letter,
@@ -107,58 +100,54 @@ impl Desk {
     }
 
     // Whether what it is told is done, with nothing to show.
-    fn does(&mut self, kind: u64, a: u64, b: u64, letter: &[u8]) -> bool {
-        matches!(self.tell(kind, a, b, letter), Told::Done)
+    fn does(&mut self, kind: Kind, a: u64, b: u64, letter: &[u8]) -> bool {
+        self.tell(kind, a, b, letter) == Told::Done
     }
 
-    // Whether what it is told is refused with this number, and the desk is then as it was.
-    pub fn refuses(&mut self, kind: u64, a: u64, b: u64, letter: &[u8], number: u64) -> bool {
+    // Whether what it is told is refused so, and the desk is then as it was.
+    pub fn refuses(&mut self, kind: Kind, a: u64, b: u64, letter: &[u8], refusal: Refusal) -> bool {
         let Ok(before) = self.copy() else {
             return false;
         };
-        match self.tell(kind, a, b, letter) {
-            Told::No(n) => n == number && self.is_as(&before),
-            _ => false,
-        }
+        self.tell(kind, a, b, letter) == Told::No(u64::from(refusal)) && self.is_as(&before)
     }
 
     // A word written or an amount added; whether it is done.
-    pub fn deed(&mut self, kind: u64, key: u64, value: u64) -> bool {
+    pub fn deed(&mut self, kind: Kind, key: u64, value: u64) -> bool {
         self.does(kind, key, value, &[])
     }
 
-    fn word(&mut self, key: u64) -> Option<u64> {
-        match self.tell(SHOW_KEY, key, 0, &[]) {
-            Told::Shows(0) => None,
-            Told::Shows(1) => Some(cell(&self.row, 0)),
-            _ => Some(NOT_SHOWN),
+    // Adds to a key so many times; whether all is done.
+    pub fn adds_often(&mut self, deeds: u64) -> bool {
+        (0..deeds).all(|amount| self.deed(Kind::Add, 1, amount))
+    }
+
+    // The word under a key, if one is shown; nothing where the key isn't shown.
+    fn word(&mut self, key: u64) -> Option<Option<u64>> {
+        match self.tell(Kind::ShowKey, key, 0, &[]) {
+            Told::Shows(0) => Some(None),
+            Told::Shows(1) => Some(self.row.first().copied()),
+            _ => None,
         }
     }
 
-    fn tally(&mut self) -> u64 {
-        match self.tell(GO_ON, 0, 0, &[]) {
-            Told::Shows(1) => cell(&self.row, 0),
-            _ => NOT_SHOWN,
+    fn tally(&mut self) -> Option<u64> {
+        match self.tell(Kind::GoOn, 0, 0, &[]) {
+            Told::Shows(1) => self.row.first().copied(),
+            _ => None,
         }
     }
 
-    // A key's word and tally, after which there's nothing left to show.
-    pub fn key(&mut self, key: u64) -> (Option<u64>, u64) {
-        let word = self.word(key);
-        let tally = self.tally();
-        (
-            word,
-            if self.does(GO_ON, 0, 0, &[]) {
-                tally
-            } else {
-                NOT_SHOWN
-            },
-        )
+    // A key's word and tally, after which there's nothing left to show; nothing where they aren't shown so.
+    pub fn key(&mut self, key: u64) -> Option<(Option<u64>, u64)> {
+        let word = self.word(key)?;
+        let tally = self.tally()?;
+        self.does(Kind::GoOn, 0, 0, &[]).then_some((word, tally))
     }
 
     // The letter that it makes for another desk; empty where it makes none, and none is empty.
     fn letter(&mut self, peer: u64) -> &[u8] {
-        match self.tell(SEND, peer, 0, &[]) {
+        match self.tell(Kind::Send, peer, 0, &[]) {
             Told::Sends(n) if n as usize <= self.out.len() => &self.out[0..n as usize],
             _ => &[],
         }
@@ -171,41 +160,33 @@ impl Desk {
 
     // Whether it reads a letter.
     pub fn hear(&mut self, peer: u64, letter: &[u8]) -> bool {
-        self.does(READ, peer, 0, letter)
+        self.does(Kind::Read, peer, 0, letter)
     }
 
     // How many operations it knows.
     pub fn known(&self) -> u64 {
-        cell(&self.memory, KNOWN)
+        self.memory.get(LENGTH).copied().unwrap_or(0)
     }
 
-    // The highest number of a desk's operations that it knows.
-    fn version(&self, desk: usize) -> u64 {
-        cell(&self.memory, desk.saturating_add(VERSIONS))
+    // The highest numbers of the desks' operations that it knows.
+    fn version(&self) -> &[u64] {
+        self.memory.get(VERSION..VERSION + DESKS).unwrap_or(&[])
     }
 
     // The number that its next operation gets.
     pub fn next_number(&self) -> u64 {
-        let mut highest = 0;
-        for desk in 0..MOST_DESKS {
-            highest = self.version(desk).max(highest);
-        }
-        highest.wrapping_add(1)
+        self.version()
+            .iter()
+            .copied()
+            .max()
+            .unwrap_or(0)
+            .wrapping_add(1)
     }
 
     // Whether it knows the same operations as another.
     pub fn agrees_with(&self, other: &Desk) -> bool {
-        for desk in 0..MOST_DESKS {
-            if self.version(desk) != other.version(desk) {
-                return false;
-            }
-        }
-        true
+        self.version() == other.version()
     }
-}
-
-fn cell(cells: &[u64], i: usize) -> u64 {
-    if i < cells.len() { cells[i] } else { 0 }
 }
 
 // A letter, and whether it is read.

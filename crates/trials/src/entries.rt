@@ -1,40 +1,25 @@
 // The newest id of a row; and how much a letter brings.
-use crate::desk::{ADD, Desk, meet};
+use crate::desk::{Desk, meet};
 use desks::Reply;
 use std::test::Fail;
 
-// What `newest` answers: a place, 1,000 for none, or 2,000 and the refusal's number.
-fn newest(names: &[u64]) -> u64 {
-    match desks::newest(names) {
-        Reply::At(place) => place,
-        Reply::None => 1000,
-        Reply::Refused(number) => number.saturating_add(2000),
-    }
-}
-
 #[test]
 fn the_newest_of_some_ids(rt: HostRuntime) {
-    assert_eq!(rt; newest(&[]), 1000);
-    assert_eq!(rt; newest(&[7]), 2001);
-    assert_eq!(rt; newest(&[1, 2, 3]), 2001);
-    assert_eq!(rt; newest(&[1, 2]), 0);
-    assert_eq!(rt; newest(&[1, 2, 3, 0, 3, 1, 2, 31]), 2);
-    assert_eq!(rt; newest(&[5, 5, 5, 5]), 0, "the first of several");
-}
-
-// A desk that has added to a key so many times.
-fn busy(desk: &mut Desk, deeds: u64) -> bool {
-    for amount in 0..deeds {
-        if !desk.deed(ADD, 1, amount) {
-            return false;
-        }
-    }
-    true
+    assert_eq!(rt; desks::newest(&[]), Reply::None);
+    assert_eq!(rt; desks::newest(&[7]), Reply::Refused(1));
+    assert_eq!(rt; desks::newest(&[1, 2, 3]), Reply::Refused(1));
+    assert_eq!(rt; desks::newest(&[1, 2]), Reply::At(0));
+    assert_eq!(rt; desks::newest(&[1, 2, 3, 0, 3, 1, 2, 31]), Reply::At(2));
+    assert_eq!(rt;
+        desks::newest(&[5, 5, 5, 5]),
+        Reply::At(0),
+        "the first of several"
+    );
 }
 
 // How many operations one letter brings from a desk that has done so many.
 fn brought(writer: &mut Desk, reader: &mut Desk, deeds: u64) -> u64 {
-    if !busy(writer, deeds) {
+    if !writer.adds_often(deeds) {
         return 0;
     }
     match writer.letter_for(reader.number) {
@@ -77,7 +62,7 @@ fn one_letter_brings_what_fits(rt: HostRuntime) -> Result<(), Fail> {
 fn a_meeting_takes_few_pairs(rt: HostRuntime) -> Result<(), Fail> {
     let mut left = Desk::opened(rt.alloc(), 0)?;
     let mut right = Desk::opened(rt.alloc(), 1)?;
-    assert!(rt; busy(&mut left, 256) && busy(&mut right, 256));
+    assert!(rt; left.adds_often(256) && right.adds_often(256));
     assert_eq!(rt; meet(&mut left, &mut right), Some(2));
     assert_eq!(rt; left.known(), 512);
     Ok(())

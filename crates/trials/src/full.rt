@@ -1,5 +1,5 @@
 // 32 desks that each do all they may, until all know everything.
-use crate::desk::{ADD, Desk, WRITE, meet};
+use crate::desk::{Desk, Kind, meet};
 use std::alloc::{AllocError, Global};
 use std::test::Fail;
 
@@ -12,7 +12,11 @@ const CAPACITY: u64 = 8192;
 // Deeds on four keys in turn, four words and four amounts by turns.
 fn do_all(desk: &mut Desk) {
     for i in 0..MOST_DEEDS {
-        let kind = if i / 4 % 2 == 0 { WRITE } else { ADD };
+        let kind = if i / 4 % 2 == 0 {
+            Kind::Write
+        } else {
+            Kind::Add
+        };
         desk.deed(kind, i % 4, desk.number.wrapping_add(i));
     }
 }
@@ -32,31 +36,17 @@ fn add_desks(heap: Global, desks: &mut Vec<Desk>) -> Result<(), AllocError> {
 }
 
 fn meets_each(hub: &mut Desk, desks: &mut [Desk]) -> bool {
-    for desk in desks.iter_mut() {
-        if meet(hub, desk).is_none() {
-            return false;
-        }
-    }
-    true
+    desks.iter_mut().all(|desk| meet(hub, desk).is_some())
 }
 
 // The last word under the key k is deed 248 + k of desk 31. Of its tally each desk d added d + k and 4, 12, .., 252, in 32 deeds.
 fn shows_all(desk: &mut Desk) -> bool {
-    for key in 0..4 {
-        if desk.key(key) != (Some(279 + key), 146_944 + 1024 * key) {
-            return false;
-        }
-    }
-    desk.known() == CAPACITY
+    let shows = (0..4).all(|key| desk.key(key) == Some((Some(279 + key), 146_944 + 1024 * key)));
+    shows && desk.known() == CAPACITY
 }
 
 fn each_shows_all(desks: &mut [Desk]) -> bool {
-    for desk in desks.iter_mut() {
-        if !shows_all(desk) {
-            return false;
-        }
-    }
-    true
+    desks.iter_mut().all(shows_all)
 }
 
 #[test]

@@ -1,10 +1,9 @@
 // Letters that no desk wrote, and letters damaged on the way: all are refused, and the desk stays as it was.
-use crate::desk::{ADD, Desk, READ};
-use crate::draw::Draw;
+use crate::desk::{Desk, Kind};
+use desks::Refusal;
+use plans::Draw;
 use std::alloc::{AllocError, Global};
 use std::test::Fail;
-
-const MALFORMED: u64 = 1;
 
 // How many lengths a letter can have, from 0 to 4,096.
 const LENGTHS: usize = 4097;
@@ -18,7 +17,7 @@ const FULL_LETTER: usize = 4088;
 const KNOWN: u64 = 20;
 
 fn refuses_letter(desk: &mut Desk, letter: &[u8]) -> bool {
-    desk.refuses(READ, 1, 0, letter, MALFORMED)
+    desk.refuses(Kind::Read, 1, 0, letter, Refusal::Malformed)
 }
 
 // How many proper prefixes in a row are refused.
@@ -45,22 +44,15 @@ fn refused_flips(desk: &mut Desk, letter: &mut [u8], bits: u8) -> usize {
 
 // So many bytes that look random.
 fn noise(heap: Global, draw: &mut Draw, n: usize) -> Result<Vec<u8>, AllocError> {
-    let mut bytes = Vec::new(heap);
-    for _ in 0..n {
-        bytes.push(draw.below(256) as u8)?;
-    }
-    Ok(bytes)
+    (0..n).map(|_| draw.below(256) as u8).collect(heap)
 }
 
 fn refuses_noise(heap: Global, desk: &mut Desk, draw: &mut Draw, n: usize) -> bool {
-    match noise(heap, draw, n) {
-        Ok(bytes) => refuses_letter(desk, &bytes),
-        Err(_) => false,
-    }
+    noise(heap, draw, n).is_ok_and(|bytes| refuses_letter(desk, &bytes))
 }
 
 fn refused_noises(heap: Global, desk: &mut Desk) -> usize {
-    let mut draw = Draw { state: 7 };
+    let mut draw = Draw::new(7);
     for n in 0..LENGTHS {
         if !refuses_noise(heap, desk, &mut draw, n) {
             return n;
@@ -69,22 +61,16 @@ fn refused_noises(heap: Global, desk: &mut Desk) -> usize {
     LENGTHS
 }
 
-fn add_often(desk: &mut Desk, deeds: u64) {
-    for amount in 0..deeds {
-        desk.deed(ADD, 1, amount);
-    }
-}
-
 // A desk that has something to lose.
 fn reader(heap: Global) -> Result<Desk, AllocError> {
     let mut desk = Desk::opened(heap, 0)?;
-    add_often(&mut desk, KNOWN);
+    desk.adds_often(KNOWN);
     Ok(desk)
 }
 
 fn letter_of(heap: Global, deeds: u64) -> Result<Vec<u8>, AllocError> {
     let mut writer = Desk::opened(heap, 1)?;
-    add_often(&mut writer, deeds);
+    writer.adds_often(deeds);
     writer.letter_for(0)
 }
 
@@ -98,12 +84,9 @@ fn noise_and_zeros(rt: HostRuntime) -> Result<(), Fail> {
 
 // Whether each bit flipped in each byte makes the letter one that is refused.
 fn refuses_each_bit(desk: &mut Desk, letter: &mut [u8], size: usize) -> bool {
-    for bits in [1, 2, 4, 8, 16, 32, 64, 128] {
-        if refused_flips(desk, letter, bits) != size {
-            return false;
-        }
-    }
-    true
+    [1, 2, 4, 8, 16, 32, 64, 128]
+        .iter()
+        .all(|bits| refused_flips(desk, letter, *bits) == size)
 }
 
 #[test]

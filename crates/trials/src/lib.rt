@@ -7,15 +7,11 @@
 #[cfg(test)]
 mod desk;
 #[cfg(test)]
-mod draw;
-#[cfg(test)]
 mod entries;
 #[cfg(test)]
 mod full;
 #[cfg(test)]
 mod junk;
-#[cfg(test)]
-mod model;
 #[cfg(test)]
 mod network;
 #[cfg(test)]

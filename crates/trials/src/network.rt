@@ -1,8 +1,7 @@
 // Two desks that write under one key; and three desks whose letters are thrown away, read twice, or read late and in any order.
-use crate::desk::{ADD, Desk, WRITE, meet, pass};
-use crate::draw::Draw;
-use crate::model;
-use crate::model::Deed;
+use crate::desk::{Desk, Kind, meet, pass};
+use papers::{Deed, Name, Paper, What};
+use plans::Draw;
 use std::test::Fail;
 
 const ROUNDS: usize = 200;
@@ -19,7 +18,8 @@ struct Letter {
 #[derive(Drop)]
 struct Network {
     draw: Draw,
-    deeds: Vec<Deed>,
+    // What the desks should show.
+    paper: Paper,
     late: Vec<Letter>,
 }
 
@@ -27,15 +27,18 @@ impl Network {
     // A desk writes a word or adds an amount, and the deed is noted.
     fn act(&mut self, desk: &mut Desk) -> bool {
         let is_word = self.draw.below(2) == 0;
-        let deed = Deed {
+        let name = Name {
             number: desk.next_number(),
             desk: desk.number,
-            is_word,
-            key: self.draw.below(KEYS),
-            value: self.draw.below(1000),
         };
-        desk.deed(if is_word { WRITE } else { ADD }, deed.key, deed.value)
-            && self.deeds.push(deed).is_ok()
+        let key = self.draw.below(KEYS);
+        let value = self.draw.below(1000);
+        let (kind, what) = if is_word {
+            (Kind::Write, What::Write { key, word: value })
+        } else {
+            (Kind::Add, What::Add { key, amount: value })
+        };
+        desk.deed(kind, key, value) && self.paper.hear(Deed { name, what }) == Ok(true)
     }
 
     // What becomes of a letter: it is thrown away, read, read twice, or kept.
@@ -49,17 +52,15 @@ impl Network {
     }
 
     fn mail(&mut self, from: &mut Desk, to: &mut Desk) -> bool {
-        match from.letter_for(to.number) {
-            Ok(bytes) => self.carry(
-                Letter {
-                    from: from.number,
-                    to: to.number,
-                    bytes,
-                },
-                to,
-            ),
-            Err(_) => false,
-        }
+        let Ok(bytes) = from.letter_for(to.number) else {
+            return false;
+        };
+        let letter = Letter {
+            from: from.number,
+            to: to.number,
+            bytes,
+        };
+        self.carry(letter, to)
     }
 
     // A desk reads one of the letters that were kept, if it is for it; the letter stays, and may be read again.
@@ -77,29 +78,22 @@ impl Network {
         self.act(desk) && self.mail(desk, left) && self.mail(desk, right) && self.late_mail(desk)
     }
 
-    // Whether a desk knows every deed, and shows of each key what the model says.
+    // Whether a desk shows a key as the paper does.
+    fn is_key_shown_by(&self, desk: &mut Desk, key: u64) -> bool {
+        desk.key(key).is_some_and(|(word, tally)| {
+            word == self.paper.word(key) && u128::from(tally) == self.paper.tally(key)
+        })
+    }
+
+    // Whether a desk knows every deed, and shows each key as the paper does.
     fn is_shown_by(&self, desk: &mut Desk) -> bool {
-        for key in 0..KEYS {
-            if desk.key(key)
-                != (
-                    model::word(&self.deeds, key),
-                    model::tally(&self.deeds, key),
-                )
-            {
-                return false;
-            }
-        }
-        desk.known() == self.deeds.len() as u64
+        (0..KEYS).all(|key| self.is_key_shown_by(desk, key))
+            && desk.known() == self.paper.len() as u64
     }
 }
 
 fn runs(network: &mut Network, a: &mut Desk, b: &mut Desk, c: &mut Desk) -> bool {
-    for _ in 0..ROUNDS {
-        if !(network.turn(a, b, c) && network.turn(b, c, a) && network.turn(c, a, b)) {
-            return false;
-        }
-    }
-    true
+    (0..ROUNDS).all(|_| network.turn(a, b, c) && network.turn(b, c, a) && network.turn(c, a, b))
 }
 
 // Whether the three come to agree, and had something left to tell.
@@ -124,7 +118,7 @@ fn three_agree(
         return Err(Fail::new("they don't come to agree"));
     }
     if !(network.is_shown_by(a) && network.is_shown_by(b) && network.is_shown_by(c)) {
-        return Err(Fail::new("the model says something else"));
+        return Err(Fail::new("the paper says something else"));
     }
     Ok(())
 }
@@ -136,15 +130,15 @@ fn letters_lost_doubled_and_late(rt: HostRuntime) -> Result<(), Fail> {
     let mut b = Desk::opened(heap, 1)?;
     let mut c = Desk::opened(heap, 2)?;
     let mut network = Network {
-        draw: Draw { state: 1 },
-        deeds: Vec::new(heap),
+        draw: Draw::new(1),
+        paper: Paper::new(heap),
         late: Vec::new(heap),
     };
     three_agree(&mut network, &mut a, &mut b, &mut c)
 }
 
 fn write_and_add(desk: &mut Desk, word: u64, amount: u64) -> bool {
-    desk.deed(WRITE, 1, word) && desk.deed(ADD, 1, amount)
+    desk.deed(Kind::Write, 1, word) && desk.deed(Kind::Add, 1, amount)
 }
 
 #[test]
@@ -156,7 +150,7 @@ fn the_later_desk_wins_and_amounts_add_up(rt: HostRuntime) -> Result<(), Fail> {
             && write_and_add(&mut second, 9, 4)
             && pass(&mut second, &mut first)
     );
-    assert_eq!(rt; first.key(1), (Some(9), 7));
-    assert_eq!(rt; second.key(1), (Some(9), 4));
+    assert_eq!(rt; first.key(1), Some((Some(9), 7)));
+    assert_eq!(rt; second.key(1), Some((Some(9), 4)));
     Ok(())
 }

@@ -1,63 +1,47 @@
 // Every refusal with its number; what is refused changes nothing.
-use crate::desk::{ADD, Desk, GO_ON, OPEN, READ, SEND, SHOW_KEY, WRITE};
+use crate::desk::Kind::{
+    Add, GoOn, Insert, NoKind, Open, Read, Send, ShowKey, ShowText, Strike, Write,
+};
+use crate::desk::{Desk, Kind};
 use crate::seal::forged;
-use desks::{MEMORY_SIZE, MOST_BYTES, MOST_SHOWN};
+use desks::Refusal::{Closed, Malformed, NoRoom, Unfit, Unknown};
+use desks::{MEMORY_SIZE, MOST_BYTES, MOST_SHOWN, Refusal};
 use std::alloc::{AllocError, Global};
 use std::test::Fail;
-
-// The numbers of refusals.
-const UNFIT: u64 = 0;
-
-const MALFORMED: u64 = 1;
-
-const UNKNOWN: u64 = 2;
-
-const CLOSED: u64 = 3;
-
-const NO_ROOM: u64 = 7;
-
-// Commands on text, which aren't known yet.
-const INSERT: u64 = 1;
-
-const STRIKE: u64 = 2;
-
-const SHOW_TEXT: u64 = 5;
 
 // The first number that has more than 32 bits.
 const LARGE: u64 = 4_294_967_296;
 
 const MOST_DEEDS: u64 = 256;
 
-// What it is told, with which two numbers, and the refusal's number.
-type Row = (u64, u64, u64, u64);
+// What it is told, with which two numbers, and how it is refused.
+type Row = (Kind, u64, u64, Refusal);
 
 // How many rows in a row are refused as they should be.
 fn refused(desk: &mut Desk, table: &[Row]) -> usize {
-    for (i, (kind, a, b, number)) in table.iter().enumerate() {
-        if !desk.refuses(*kind, *a, *b, &[], *number) {
-            return i;
-        }
-    }
-    table.len()
+    table
+        .iter()
+        .position(|(kind, a, b, refusal)| !desk.refuses(*kind, *a, *b, &[], *refusal))
+        .unwrap_or(table.len())
 }
 
 #[test]
 fn before_it_is_open(rt: HostRuntime) -> Result<(), Fail> {
     let mut desk = Desk::closed(rt.alloc(), 0)?;
     let table = [
-        (OPEN, 32, 0, MALFORMED),
-        (INSERT, 0, 65, CLOSED),
-        (STRIKE, 0, 0, CLOSED),
-        (WRITE, 1, 1, CLOSED),
-        (WRITE, LARGE, 1, CLOSED),
-        (ADD, 1, 1, CLOSED),
-        (SHOW_TEXT, 0, 0, CLOSED),
-        (SHOW_KEY, 1, 0, CLOSED),
-        (SEND, 1, 0, CLOSED),
-        (SEND, 32, 0, CLOSED),
-        (READ, 1, 0, CLOSED),
-        (GO_ON, 0, 0, CLOSED),
-        (10, 0, 0, UNFIT),
+        (Open, 32, 0, Malformed),
+        (Insert, 0, 65, Closed),
+        (Strike, 0, 0, Closed),
+        (Write, 1, 1, Closed),
+        (Write, LARGE, 1, Closed),
+        (Add, 1, 1, Closed),
+        (ShowText, 0, 0, Closed),
+        (ShowKey, 1, 0, Closed),
+        (Send, 1, 0, Closed),
+        (Send, 32, 0, Closed),
+        (Read, 1, 0, Closed),
+        (GoOn, 0, 0, Closed),
+        (NoKind, 0, 0, Unfit),
     ];
     assert_eq!(rt; refused(&mut desk, &table), 13);
     Ok(())
@@ -67,46 +51,37 @@ fn before_it_is_open(rt: HostRuntime) -> Result<(), Fail> {
 fn once_it_is_open(rt: HostRuntime) -> Result<(), Fail> {
     let mut desk = Desk::opened(rt.alloc(), 0)?;
     let table = [
-        (OPEN, 32, 0, MALFORMED),
-        (OPEN, 0, 0, CLOSED),
-        (OPEN, 1, 0, CLOSED),
-        (INSERT, 0, 65, UNKNOWN),
-        (STRIKE, 0, 0, UNKNOWN),
-        (SHOW_TEXT, 0, 0, UNKNOWN),
-        (WRITE, LARGE, 1, MALFORMED),
-        (WRITE, 1, LARGE, MALFORMED),
-        (ADD, LARGE, 1, MALFORMED),
-        (ADD, 1, LARGE, MALFORMED),
-        (SHOW_KEY, LARGE, 0, MALFORMED),
-        (SEND, 32, 0, MALFORMED),
-        (SEND, 0, 0, MALFORMED),
-        (10, 0, 0, UNFIT),
+        (Open, 32, 0, Malformed),
+        (Open, 0, 0, Closed),
+        (Open, 1, 0, Closed),
+        (Insert, 0, 65, Unknown),
+        (Strike, 0, 0, Unknown),
+        (ShowText, 0, 0, Unknown),
+        (Write, LARGE, 1, Malformed),
+        (Write, 1, LARGE, Malformed),
+        (Add, LARGE, 1, Malformed),
+        (Add, 1, LARGE, Malformed),
+        (ShowKey, LARGE, 0, Malformed),
+        (Send, 32, 0, Malformed),
+        (Send, 0, 0, Malformed),
+        (NoKind, 0, 0, Unfit),
     ];
     assert_eq!(rt; refused(&mut desk, &table), 14);
     Ok(())
 }
 
-fn add_often(desk: &mut Desk) -> bool {
-    for amount in 0..MOST_DEEDS {
-        if !desk.deed(ADD, 1, amount) {
-            return false;
-        }
-    }
-    true
-}
-
 #[test]
 fn after_256_deeds(rt: HostRuntime) -> Result<(), Fail> {
     let mut desk = Desk::opened(rt.alloc(), 0)?;
-    assert!(rt; add_often(&mut desk));
+    assert!(rt; desk.adds_often(MOST_DEEDS));
     assert_eq!(rt;
         refused(
             &mut desk,
             &[
-                (ADD, 1, 1, NO_ROOM),
-                (WRITE, 1, 1, NO_ROOM),
-                (WRITE, LARGE, 1, MALFORMED),
-                (INSERT, 0, 65, UNKNOWN),
+                (Add, 1, 1, NoRoom),
+                (Write, 1, 1, NoRoom),
+                (Write, LARGE, 1, Malformed),
+                (Insert, 0, 65, Unknown),
             ],
         ),
         4
@@ -122,11 +97,11 @@ fn is_unfit(heap: Global, cells: usize, shown: usize, bytes: usize) -> bool {
     refused(
         &mut desk,
         &[
-            (OPEN, 0, 0, UNFIT),
-            (OPEN, 32, 0, UNFIT),
-            (WRITE, 1, 1, UNFIT),
-            (SEND, 1, 0, UNFIT),
-            (GO_ON, 0, 0, UNFIT),
+            (Open, 0, 0, Unfit),
+            (Open, 32, 0, Unfit),
+            (Write, 1, 1, Unfit),
+            (Send, 1, 0, Unfit),
+            (GoOn, 0, 0, Unfit),
         ],
     ) == 5
 }
@@ -155,23 +130,20 @@ fn what_is_lent_does_not_fit(rt: HostRuntime) {
 #[test]
 fn a_letter_that_is_too_long(rt: HostRuntime) -> Result<(), Fail> {
     let mut desk = Desk::opened(rt.alloc(), 0)?;
-    assert!(rt; desk.refuses(READ, 1, 0, &[1; 4097], UNFIT));
+    assert!(rt; desk.refuses(Read, 1, 0, &[1; 4097], Unfit));
     Ok(())
 }
 
 // A letter from desk 1 for desk 0, as if from others.
 fn refuses_peers(desk: &mut Desk, letter: &[u8]) -> bool {
-    desk.refuses(READ, 0, 0, letter, MALFORMED)
-        && desk.refuses(READ, 2, 0, letter, MALFORMED)
-        && desk.refuses(READ, 32, 0, letter, MALFORMED)
+    desk.refuses(Read, 0, 0, letter, Malformed)
+        && desk.refuses(Read, 2, 0, letter, Malformed)
+        && desk.refuses(Read, 32, 0, letter, Malformed)
 }
 
 // The letter with another byte at a place, sealed anew.
 fn refuses_forgery(heap: Global, desk: &mut Desk, letter: &[u8], place: usize, byte: u8) -> bool {
-    match forged(heap, letter, place, byte) {
-        Ok(bytes) => desk.refuses(READ, 1, 0, &bytes, MALFORMED),
-        Err(_) => false,
-    }
+    forged(heap, letter, place, byte).is_ok_and(|bytes| desk.refuses(Read, 1, 0, &bytes, Malformed))
 }
 
 // How many forgeries in a row are refused.
@@ -181,18 +153,16 @@ fn refused_forgeries(
     letter: &[u8],
     forgeries: &[(usize, u8)],
 ) -> usize {
-    for (i, (place, byte)) in forgeries.iter().enumerate() {
-        if !refuses_forgery(heap, desk, letter, *place, *byte) {
-            return i;
-        }
-    }
-    forgeries.len()
+    forgeries
+        .iter()
+        .position(|(place, byte)| !refuses_forgery(heap, desk, letter, *place, *byte))
+        .unwrap_or(forgeries.len())
 }
 
 // A letter from desk 1 for desk 0, with one operation.
 fn letter_of_one(heap: Global) -> Result<Vec<u8>, AllocError> {
     let mut writer = Desk::opened(heap, 1)?;
-    writer.deed(WRITE, 1, 5);
+    writer.deed(Write, 1, 5);
     writer.letter_for(0)
 }
 
@@ -228,6 +198,6 @@ fn a_forgery_of_the_word_is_read(rt: HostRuntime) -> Result<(), Fail> {
     let mut desk = Desk::opened(rt.alloc(), 0)?;
     let bytes = forged(rt.alloc(), &letter, 144, 6)?;
     assert!(rt; desk.hear(1, &bytes));
-    assert_eq!(rt; desk.key(1), (Some(6), 0));
+    assert_eq!(rt; desk.key(1), Some((Some(6), 0)));
     Ok(())
 }

@@ -14,19 +14,13 @@ fn next_bit(sum: u32) -> u32 {
 }
 
 fn next_byte(sum: u32, byte: u8) -> u32 {
-    let mut sum = sum ^ u32::from(byte);
-    for _ in 0..8 {
-        sum = next_bit(sum);
-    }
-    sum
+    (0..8).fold(sum ^ u32::from(byte), |sum, _| next_bit(sum))
 }
 
 fn crc_of(bytes: &[u8]) -> u32 {
-    let mut sum = u32::MAX;
-    for byte in bytes {
-        sum = next_byte(sum, *byte);
-    }
-    !sum
+    !bytes
+        .iter()
+        .fold(u32::MAX, |sum, byte| next_byte(sum, *byte))
 }
 
 // A letter with another byte at a place, sealed anew.

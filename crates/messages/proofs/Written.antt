@@ -1,5 +1,6 @@
 -- A letter's four pieces: the version vector, the records, the head in front of them, and the CRC behind make the whole letter.
-use Rattle.std.proofs.Common.{◌≡◌, ℕ, ◌+◌, ◌*◌, ◌<◌, ◌≤◌, List, [], ◌∷◌, ◌++◌, length, take, Some, None, sym, refl, ap, ◌∙◌, append_assoc, arith, length-append, length-take}
+use Rattle.std.proofs.Common.{◌≡◌, ℕ, ◌+◌, ◌*◌, ◌<◌, ◌≤◌, List, [], ◌∷◌, ◌++◌, length, take, drop, Some, None, sym, refl, ap, ◌∙◌, append_assoc, arith, length-append, length-take, take-append-drop}
+use Rattle.std.proofs.lemmas.List.{drop-append-le}
 use lib.Seq.{paste}
 use Rattle.ops.specs.Doc as doc
 use Rattle.ops.specs.Doc.{flat}
@@ -53,6 +54,18 @@ wrote_letter m out mid last whole done from for count n h e f g i j k =
     let s = length-sealed bs in
     let b : n ≡ length bs = omega arith in
     (h, omega arith, sealed-filled bs out whole done n b (body_filled from for count (versions m) (news m for) out mid last whole h e f g i) k)
+
+pub front_long : (out front : List ℕ) → 4096 ≤ length out → front ≡ take 4096 out → 4096 ≤ length front
+front_long out front h e = rw e (omega (arith, length-take 4096 out))
+
+-- a letter that was written into the first 4,096 bytes of a longer buffer
+pub wrote_within : (bs out front done : List ℕ) (n : ℕ) → 4096 ≤ length out → front ≡ take 4096 out → n ≤ 4096 → Wrote bs (Some n) front done → Wrote bs (Some n) out (done ++ drop 4096 out)
+unfolding Wrote
+wrote_within bs out front done n h e k w =
+    let l = length-take 4096 out in
+    let a : drop (length bs) front ++ drop 4096 out ≡ drop (length bs) out =
+    rw e (sym (drop-append-le (length bs) (take 4096 out) (drop 4096 out) (omega (arith, w.1))) ∙ ap (drop (length bs)) (take-append-drop 4096 out)) in
+    (h, w.1, ap (λ (xs : List ℕ). xs ++ drop 4096 out) w.2 ∙ append_assoc bs (drop (length bs) front) (drop 4096 out) ∙ ap (λ (xs : List ℕ). bs ++ xs) a)
 
 pub wrote_nothing : (bs out : List ℕ) → length out < 4096 → Wrote bs None out out
 unfolding Wrote

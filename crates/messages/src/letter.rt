@@ -20,8 +20,7 @@ use checksums::crc32;
 use ops::{Desk, Memory, Op};
 
 // The head, in front of all that is written already.
-fn write_head(from: Desk, to: Desk, count: u8, out: &mut [u8])
-    requires { 4 ≤ length out.old }
+fn write_head(from: Desk, to: Desk, count: u8, out: &mut [u8; LONGEST])
     ensures { out.new ≡ filled (1 ∷ desk_of from ∷ desk_of to ∷ count ∷ []) out.old }
 {
     out[0] = FORMAT;
@@ -31,8 +30,7 @@ fn write_head(from: Desk, to: Desk, count: u8, out: &mut [u8])
 }
 
 // The version vector, behind the head.
-fn write_versions(memory: &Memory, out: &mut [u8])
-    requires { 132 ≤ length out.old }
+fn write_versions(memory: &Memory, out: &mut [u8; LONGEST])
     ensures { out.new ≡ filled (take 4 out.old ++ vector_bytes 32 (versions (held memory.now))) out.old }
 {
     for number in 0..DESKS {
@@ -45,8 +43,7 @@ fn write_versions(memory: &Memory, out: &mut [u8])
 }
 
 // The records of what is news to a peer, as many as fit; and how many those are.
-fn write_news(memory: &Memory, to: Desk, out: &mut [u8]) -> usize
-    requires { 4096 ≤ length out.old }
+fn write_news(memory: &Memory, to: Desk, out: &mut [u8; LONGEST]) -> usize
     ensures few { result ≤ 247 }
     ensures count { result ≡ length (news (held memory.now) (desk_of to)) }
     ensures after { out.new ≡ filled (take 132 out.old ++ flat record_bytes (news (held memory.now) (desk_of to))) out.old }
@@ -64,8 +61,8 @@ fn write_news(memory: &Memory, to: Desk, out: &mut [u8]) -> usize
 }
 
 // The CRC of the first `n` bytes, behind them.
-fn seal(out: &mut [u8], n: usize)
-    requires { n + 4 ≤ length out.old }
+fn seal(out: &mut [u8; LONGEST], n: usize)
+    requires { n + 4 ≤ 4096 }
     ensures { out.new ≡ paste out.old n (four (crc32_of (take n out.old))) 4 }
 {
     let crc = crc32(&out[..n]);
@@ -76,9 +73,7 @@ fn seal(out: &mut [u8], n: usize)
 pub fn write_letter(memory: &Memory, from: Desk, to: Desk, out: &mut [u8]) -> Option<usize>
     ensures { Wrote (letter_for (held memory.now) (desk_of from) (desk_of to)) result out.old out.new }
 {
-    if out.len() < LONGEST {
-        return None;
-    }
+    let out = out.first_chunk_mut::<LONGEST>()?;
     write_versions(memory, out);
     let count = write_news(memory, to, out);
     // the head says how many records there are

@@ -5,3 +5,4 @@ pub mod Slots
 pub mod Grown
 pub mod Scans
 pub mod Frames
+pub mod Highest

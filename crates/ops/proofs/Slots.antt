@@ -1,5 +1,5 @@
 -- An operation's six cells: what is written there, and the operation that is read again.
-use Rattle.std.proofs.Common.{◌≡◌, ℕ, ◌+◌, ◌-◌, ◌%◌, ◌<◌, ◌≤◌, min, max, true, ltb, List, ◌∷◌, length, set, take, drop, append_assoc, sym, refl, ap, ◌∙◌, add-one, arith, le-ltb, lt-ltb, ne_eqb}
+use Rattle.std.proofs.Common.{◌≡◌, ℕ, ◌+◌, ◌-◌, ◌%◌, ◌<◌, ◌≤◌, min, true, ltb, List, ◌∷◌, length, set, take, drop, append_assoc, sym, refl, ap, ◌∙◌, arith, le-ltb, lt-ltb, ne_eqb}
 use lib.Seq.{sets}
 use borrow.Rule.Slice.PartMut.{put_mid}
 use Rattle.std.proofs.lemmas.Slice.{put_mid-paste}
@@ -14,8 +14,8 @@ use Rattle.ops.specs.declared.types.Tag.{Tag}
 use Rattle.ops.specs.declared.types.Tag.TheVariants.{Insert, Delete, Write, Add}
 use Rattle.ops.specs.declared.types.UnknownTag.{UnknownTag}
 use Rattle.ops.specs.Values.{desk_of, kind_of, tag_of, ReadsTag, op_of}
-use Rattle.ops.specs.Layout.{version_cell, made_cell, slot, low}
-use Rattle.ops.specs.Log.{kind_from, part, op_at, row_of, cells_of, kept, with_op, appended, highest_up_to}
+use Rattle.ops.specs.Layout.{made_cell, slot, low}
+use Rattle.ops.specs.Log.{kind_from, part, op_at, row_of, cells_of, kept, with_op, appended}
 
 pub kind_0 : (t x y z : ℕ) → t ≡ 0 → kind_from t x y z ≡ put_in (id x (y % 32)) z
 unfolding kind_from
@@ -74,11 +74,6 @@ copied_cells m now row vs p e f g h k l =
     let n : length vs ≡ e - p = omega arith in
     put_mid-paste p (e - p) m now vs (length vs) (f ∙ g) n refl ∙ paste_all m p vs (length vs) refl
     ∙ sym (append_assoc (take p m) vs (drop (p + length vs) m)) ∙ sym (sets-eq vs m p (omega arith))
-
--- one more desk of the version vector
-pub highest_more : (m : List ℕ) (d h v r : ℕ) → h ≡ highest_up_to d m → v ≡ low m (version_cell d) → r ≡ max h v → r ≡ highest_up_to (d + 1) m
-unfolding highest_up_to
-highest_more m d h v r a b c = rw add-one (c ∙ (λ i. max (a i) (b i)))
 
 -- an append, with room and without
 pub append-room : (m m₁ : List ℕ) (o : doc.Op) (k n made : ℕ) → k ≡ kept m → k < 8192 → n ≡ o.name.n → made ≡ low m (made_cell o.name.who) → m₁ ≡ sets m (slot k) (cells_of o) →

@@ -130,11 +130,10 @@ impl Memory<'_> {
     pub fn highest(&self) -> u32
         ensures { result ≡ highest_up_to 32 (held self.now) }
     {
-        let mut highest: u32 = 0;
-        for d in 0..DESKS {
-            highest = highest.max(self.low_half(VERSION + d));
-        }
-        highest
+        (0..DESKS)
+            .map(|d| self.low_half(VERSION + d))
+            .max()
+            .unwrap_or(0)
     }
 
     // Writes an operation's six cells at a place of the log.

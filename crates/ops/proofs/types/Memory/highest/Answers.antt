@@ -1,11 +1,16 @@
-use Rattle.std.proofs.Common.{refl}
-use Rattle.ops.specs.Log.{highest_up_to}
-use Rattle.ops.proofs.Slots.{highest_more}
+use Rattle.std.proofs.Common.{rules, refl, ◌∙◌}
+use Rattle.std.proofs.lemmas.Iterator.{YieldsList-from_range, YieldsList-from_map}
+use Rattle.std.proofs.lemmas.Iterator.Consumers.{YieldsList-at, max_from_yields_List}
+use borrow.Author.Tests.{tests}
+use Rattle.ops.specs.Layout.{version_cell, low}
+use Rattle.ops.specs.Values.{held}
+use Rattle.ops.proofs.Highest.{highest_picked}
 use Rattle.ops.proofs.types.Memory.highest.Goals as goal
 
-pub loop-d-init : goal.loop-d-init
-unfolding highest_up_to
-loop-d-init c = refl
-
-pub loop-d-preserved : goal.loop-d-preserved
-loop-d-preserved c = highest_more _ _ _ _ _ c.loop-d.invariant c.low_half.ensures c.max-highest.ensures
+pub returns : goal.returns
+returns c =
+    let m = held c.args.self.now in
+    c.unwrap_or.ensures
+    ∙ highest_picked m c.max.result
+    (max_from_yields_List c.map.result c.max.result c.max.ensures.ran
+    (YieldsList-from_map _ (λ d. low m (version_cell d)) (YieldsList-at c.map.ensures.source (YieldsList-from_range 0 32 32 refl refl)) c.map.ensures.closure (λ x r q k. search (rules, tests))))

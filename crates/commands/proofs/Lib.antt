@@ -2,7 +2,7 @@ mod Spaces
 pub mod Splits
 mod Digits
 mod Signs
-pub mod Says
+mod Says
 pub mod Bytes
 pub mod Ends
 pub mod Decimals

@@ -1,20 +1,10 @@
 -- What a line says, from its first word and what follows it.
-use Rattle.std.proofs.Common.{◌≡◌, ℕ, false, List, [], ◌∷◌, length, Option, Result, Some, Ok, Err, codes, sym, refl, ap, ◌∙◌, ⊎_elim}
-use Rattle.std.specs.Str.{bytes_eq}
-use Rattle.std.proofs.lemmas.Slice.Eq.{bytes_eq-Decides}
-use Rattle.std.proofs.lemmas.Bool.{cond-false, cases_Bool}
+use Rattle.std.proofs.Common.{◌≡◌, ℕ, List, [], ◌∷◌, length, Option, Result, Some, Ok, Err, refl, ap, ◌∙◌}
 use Rattle.commands.specs.Words.{past_spaces, up_to_spaces, first_of, rest_of}
 use Rattle.commands.specs.Lines.{said, if_said, with_ok, command_of, words_say, line_says}
 use Rattle.std.specs.Result.{MatchResult}
 use Rattle.commands.specs.declared.Command.{Command}
 use Rattle.commands.specs.declared.Fault.{Fault}
-use Rattle.commands.specs.declared.Fault.TheVariants.{NotACommand}
-
-abbrev pub Unlike : List ℕ → List ℕ → Type 0
-Unlike w v = w ≡ v → ⊥
-
-pub other : (w v : List ℕ) → Unlike w v → bytes_eq w v ≡ false
-other w v h = ⊎_elim (λ e. absurd (h ((bytes_eq-Decides w v).0 e))) (λ e. e) (cases_Bool (bytes_eq w v))
 
 pub passed_on : (r : Result Command Fault) (s : Result (Option Command) Fault) → MatchResult r (λ x. s ≡ Ok (Some x)) (λ e. s ≡ Err e) → with_ok if_said s ≡ with_ok Some (with_ok said r)
 passed_on (Ok x) s h = ap (with_ok if_said) h

@@ -14,11 +14,10 @@ use Rattle.commands.proofs.Behind.{reads_one, reads_two}
 use Rattle.commands.proofs.Bytes.{lacks_tested, lacks-behind}
 use Rattle.commands.proofs.Decimals.{all-decimal, decimal-lacks, decimal_word, decimal_line, decimal-closed, decimal-alone, decimal_starts, number-decimal, line_behind, number_then, number_last}
 use Rattle.commands.proofs.Ends.{closed_last, closed_after, closed-behind, starts}
-use Rattle.commands.proofs.Says.{Unlike}
 use Rattle.commands.proofs.Splits.{first_split, rest_split}
 use Rattle.sessions.specs.Session.{Noted, nothing, version, at, meet, expect, number_and_rest, commanded, at_desk, words_note, text_notes}
 use Rattle.sessions.specs.Shown.{line_of, Notable, ReadsBack}
-use Rattle.sessions.proofs.Notes.{not_a_word, some_words}
+use Rattle.sessions.proofs.Notes.{Unlike, not_a_word, some_words}
 
 -- a desk's number is none of the words that begin a line
 no_word : (n : ℕ) (w : List ℕ) → Number n → all_digits w ≡ false → Unlike (decimal n) w

@@ -1,9 +1,16 @@
 -- What a line says, from its first word and what follows it.
-use Rattle.std.proofs.Common.{◌≡◌, ℕ, eqb, List, [], ◌∷◌, length, get_or, codes, sym, refl, ap, ◌∙◌}
-use Rattle.std.proofs.lemmas.Bool.{cond-false, ne_eqb}
+use Rattle.std.proofs.Common.{◌≡◌, ℕ, false, eqb, List, [], ◌∷◌, length, get_or, codes, sym, refl, ap, ◌∙◌}
+use Rattle.std.specs.Str.{bytes_eq}
+use Rattle.std.proofs.lemmas.Bool.{cond-false, ne_eqb, false_from_ne_true}
+use Rattle.std.proofs.lemmas.Slice.Eq.{bytes_eq-Decides}
 use Rattle.commands.specs.Words.{past_spaces, up_to_spaces, first_of, rest_of}
-use Rattle.commands.proofs.Says.{Unlike, other}
 use Rattle.sessions.specs.Session.{at_desk, words_note, text_notes, session_says}
+
+abbrev pub Unlike : List ℕ → List ℕ → Type 0
+Unlike w v = w ≡ v → ⊥
+
+other : (w v : List ℕ) → Unlike w v → bytes_eq w v ≡ false
+other w v h = false_from_ne_true (bytes_eq w v) (λ e. h ((bytes_eq-Decides w v).0 e))
 
 pub not_a_word : (w text : List ℕ) → Unlike w (codes "session") → Unlike w (codes "meet") → Unlike w (codes "expect") → at_desk w text ≡ words_note w text
 not_a_word w text s m e = sym (cond-false _ _ _ (other w _ s) ∙ cond-false _ _ _ (other w _ m) ∙ cond-false _ _ _ (other w _ e))

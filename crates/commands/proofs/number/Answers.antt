@@ -1,4 +1,4 @@
-use Rattle.std.proofs.Common.{sym, refl, ◌∙◌, arith, lit<}
+use Rattle.std.proofs.Common.{sym, ◌∙◌, arith}
 use Rattle.std.proofs.lemmas.Bool.{eqb-true, eqb-false}
 use Rattle.commands.proofs.Digits.{read_on, read-no_more, read_all, no_digits}
 use Rattle.commands.proofs.number.Goals as goal

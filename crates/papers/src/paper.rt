@@ -15,6 +15,7 @@ pub struct Paper {
 }
 
 impl Paper {
+    #[tactic(auto, unfolding(ops::specs::Doc::those))]
     pub fn new(heap: Global) -> Paper
         ensures deeds { deeds_of result ≡ [] }
         ensures text { text_of result ≡ [] }

@@ -11,6 +11,7 @@ use crate::paper::Paper;
 
 impl What {
     // What this adds to a key's tally.
+    #[tactic(auto, unfolding(ops::specs::Doc::count_of))]
     pub fn added_to(self, key: u64) -> u64
         ensures { result ≡ count_of key (kind_of self) }
     {

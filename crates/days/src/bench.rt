@@ -1,10 +1,9 @@
 // The standard day, to be timed: 32 desks do 256 deeds each, after one deed in eight two of them meet, and at the end all do. Nothing is compared.
+use desks::DESKS;
 use plans::Draw;
 use replicas::Deed;
 use simulator::{Answer, Command, Item, Room};
 use std::alloc::{AllocError, Global};
-
-const DESKS: u64 = 32;
 
 const ROUNDS: u64 = 256;
 

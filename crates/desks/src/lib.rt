@@ -17,6 +17,9 @@ mod report;
 
 pub use refusal::Refusal;
 
+// Desks have numbers below this.
+pub const DESKS: u64 = ops::layout::DESKS as u64;
+
 // How many cells a desk has.
 pub const MEMORY_SIZE: usize = ops::layout::SIZE;
 
@@ -63,9 +66,7 @@ fn is_before(names: &[u64], p: usize, i: usize) -> bool
     requires { (p * 2 + 1 < length names.now) × (i * 2 + 1 < length names.now) }
     ensures { result ≡ id_before (name_at names.now p) (name_at names.now i) }
 {
-    let a = names[p * 2];
-    let b = names[i * 2];
-    a < b || a == b && names[p * 2 + 1] < names[i * 2 + 1]
+    (names[p * 2], names[p * 2 + 1]) < (names[i * 2], names[i * 2 + 1])
 }
 
 // The place of the newest of ids in a row, two numbers each; refused with 1 if one is cut short.

@@ -2,14 +2,12 @@
 // machine shows or refuses, each answer before the next line is read. A line that cannot be obeyed is told on standard error, and changes nothing.
 #![tactic(auto)]
 
+use desks::DESKS;
 use replicas::{Fault, Replica};
 use std::{env, io};
 
 mod session;
 mod trouble;
-
-// Desks have numbers below this.
-const DESKS: u64 = 32;
 
 // The desk that the program is given as its only argument.
 fn given_desk(rt: &HostRuntime) -> Option<u64> {

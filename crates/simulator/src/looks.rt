@@ -10,8 +10,7 @@ ghost use Rattle.simulator.specs.Looks.{Found};
 
 use crate::letter::Letter;
 use crate::room::Room;
-
-const DESKS: u64 = ops::layout::DESKS as u64;
+use desks::DESKS;
 
 impl Room {
     // How many operations a desk knows.

@@ -9,11 +9,9 @@ use crate::letter::Letter;
 use crate::meetings;
 use crate::room::{Answer, Command, Item, Room};
 use crate::two::Two;
-use desks::{MOST_BYTES, Refusal};
+use desks::{DESKS, MOST_BYTES, Refusal};
 use replicas::Replica;
 use std::alloc::{AllocError, Global};
-
-const DESKS: u64 = ops::layout::DESKS as u64;
 
 // An answer with nothing shown.
 fn plain(outcome: Result<(), Refusal>) -> Result<Answer, Refusal>

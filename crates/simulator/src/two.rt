@@ -1,7 +1,7 @@
 // Two different desks of a room.
 ghost use Rattle.std.specs.Prelude.{◌≡◌, ◌<◌, ◌≢◌};
 
-use desks::Refusal;
+use desks::{DESKS, Refusal};
 
 #[derive(Clone, Copy)]
 pub struct Two {
@@ -11,8 +11,6 @@ pub struct Two {
     ghost far: { other < 32 },
     ghost apart: { one ≢ other },
 }
-
-const DESKS: u64 = ops::layout::DESKS as u64;
 
 impl Two {
     ghost use Rattle.simulator.specs.Two.{AreTwo};

@@ -1,15 +1,13 @@
 // A stage: a room, the names that the session gave its letters, and what each desk showed last.
 use crate::trouble::Trouble;
 use commands::Command;
-use desks::Refusal;
+use desks::{DESKS, Refusal};
 use pictures::Event;
 use replicas::Deed;
 use sessions::Line;
 use simulator::{Answer, Item, Room};
 use std::alloc::Global;
 use std::collections::BTreeMap;
-
-const DESKS: u64 = 32;
 
 const VERSION: u64 = 1;
 

@@ -1,9 +1,8 @@
 // 32 desks that each do all they may, until all know everything.
 use crate::desk::{Desk, Kind, meet};
+use desks::DESKS;
 use std::alloc::{AllocError, Global};
 use std::test::Fail;
-
-const DESKS: u64 = 32;
 
 const MOST_DEEDS: u64 = 256;
 

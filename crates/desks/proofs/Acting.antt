@@ -157,7 +157,7 @@ sent m m₁ a d p n out out₁ o e h k f g =
     let long = ap length g ∙ length-append letter (drop (length letter) out) in
     record {
       acts = acting m m₁ (letter_to a) (idle (held m)) (sends (take n out₁)) (letter_well (held m) a d o e h.0)
-        ((λ i. says (idle (held m)) (sends (letter_for (held m) (sym e i) (sym h.1 i)))) ∙ ap (λ b. says (idle (held m)) (sends b)) (sym w)) k;
+          ((λ i. says (idle (held m)) (sends (letter_for (held m) (sym e i) (sym h.1 i)))) ∙ ap (λ b. says (idle (held m)) (sends b)) (sym w)) k;
       front = (omega arith, g ∙ (λ i. sym w i ++ drop (sym f i) out));
     }
 

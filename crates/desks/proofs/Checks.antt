@@ -1,5 +1,5 @@
 -- What is known after a check, of the value that it hands on or of the refusal that it leaves with.
-use Rattle.std.proofs.Common.{◌≡◌, true, false, Some, None, Ok, Err, Option, Result, sym, refl, ◌∙◌, subst}
+use Rattle.std.proofs.Common.{◌≡◌, true, false, Some, None, Ok, Err, Option, Result, refl, ◌∙◌, subst}
 use Rattle.std.specs.Option.{SomeIff, option_map, ok_or}
 use Rattle.std.specs.Result.{IsErrAnd, is_ok}
 use Rattle.std.proofs.lemmas.Bool.{both_ways}

@@ -1,9 +1,9 @@
 -- How a machine runs on from its first act, whatever stands in its memory.
-use Rattle.std.proofs.Common.{◌≡◌, ℕ, zero, suc, ◌<◌, ◌≤◌, Bool, true, false, ltb, leb, ◌⊎◌, List, [], ◌∷◌, ◌++◌, length, get_or, take, drop, replicate, Some, None, Ok, Err, Option, Result, sym, refl, ap, ◌∙◌, subst, inl, inr, ⊎_elim, arith, get_or-set_other, get_or-set_same}
+use Rattle.std.proofs.Common.{◌≡◌, ℕ, zero, suc, ◌<◌, ◌≤◌, Bool, true, false, ltb, leb, ◌⊎◌, List, [], ◌∷◌, length, get_or, take, replicate, Some, None, Ok, Err, Option, Result, sym, refl, ap, ◌∙◌, subst, inl, inr, ⊎_elim, arith, get_or-set_other, get_or-set_same}
 use Rattle.std.proofs.lemmas.Bool.{ltb-true, leb-true, le-leb, lt-leb, and_parts, both_ways}
 use Rattle.std.specs.Option.{MatchOption, IsSomeAnd, option_to_list, unwrap_or}
 use Rattle.std.specs.Result.{IsErrAnd}
-use Rattle.ops.specs.Doc.{pick, Op, insert, strike, write_under, add_to, show_text, show_key, word_at, count_at}
+use Rattle.ops.specs.Doc.{pick, insert, strike, write_under, add_to, show_text, show_key, word_at, count_at}
 use Rattle.ops.specs.Layout.{memory_size}
 use Rattle.ops.specs.Log.{ops_of}
 use Rattle.messages.specs.Letter.{letter_for}
@@ -12,9 +12,9 @@ use Rattle.desks.specs.Machine.{blank, me, is_peer, is_small, idle, says, does_s
 use Rattle.desks.specs.Promise.{opened}
 use Rattle.desks.specs.Entry.{own}
 use Rattle.desks.specs.Refusals.{number_of}
-use Rattle.desks.specs.Acts.{quiet, word, rest, posted}
+use Rattle.desks.specs.Acts.{quiet, word, rest}
 use Rattle.desks.specs.declared.refusal.Refusal.{Refusal}
-use Rattle.desks.specs.declared.refusal.Refusal.TheVariants.{Unfit, Malformed}
+use Rattle.desks.specs.declared.refusal.Refusal.TheVariants.{Malformed}
 use Rattle.desks.proofs.Telling.{accepts, refuses}
 use Rattle.network.proofs.OwnRep.{nothing_left}
 use Rattle.network.proofs.OwnRuns.{own_refused, own_sends}

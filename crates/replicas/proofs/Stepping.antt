@@ -11,7 +11,7 @@ use Rattle.desks.proofs.Telling.{refuses}
 use Rattle.desks.specs.Acts as acts
 use Rattle.desks.specs.declared.refusal.Refusal.{Refusal}
 use Rattle.replicas.specs.Replica.{command_of}
-use Rattle.replicas.specs.Steps.{event_of, Tells, Posts, Unsent, PostsIf}
+use Rattle.replicas.specs.Steps.{event_of, Tells, PostsIf}
 use Rattle.replicas.specs.declared.machine.Deed.{Deed}
 use Rattle.replicas.specs.declared.acts.Told.{Told}
 

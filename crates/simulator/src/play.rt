@@ -75,7 +75,12 @@ impl Room {
     }
 
     // The same of two numbers, if they are two desks'.
-    fn make(&mut self, heap: Global, from: u64, to: u64) -> Result<Result<Answer, Refusal>, AllocError>
+    fn make(
+        &mut self,
+        heap: Global,
+        from: u64,
+        to: u64,
+    ) -> Result<Result<Answer, Refusal>, AllocError>
         ensures { Played (view self.old) (makes from to) result (view self.new) }
     {
         match Two::new(from, to) {

@@ -1,4 +1,3 @@
-use Rattle.std.proofs.Common.{refl}
 use Rattle.desks.proofs.Dispatch.{done_ok, done_no}
 use Rattle.desks.proofs.report.done.Goals as goal
 

@@ -1,4 +1,4 @@
-use Rattle.std.proofs.Common.{◌≡◌, ◌+◌, ◌<◌, vec_len, refl, ◌∙◌, subst, arith}
+use Rattle.std.proofs.Common.{◌≡◌, ◌+◌, ◌<◌, vec_len, subst, arith}
 use Rattle.simulator.specs.Rooms.{memories}
 use Rattle.simulator.specs.Meetings.{Met}
 use Rattle.simulator.proofs.Passing.{counted, known-there, level-there}

@@ -1,9 +1,8 @@
 use Rattle.std.proofs.Common.{sym}
-use Rattle.ops.specs.Doc.{show_text}
 use Rattle.desks.specs.Run.{said}
 use Rattle.replicas.specs.Replica.{command_of}
 use Rattle.replicas.proofs.Stepping.{lent_tells}
-use Rattle.replicas.proofs.Runs.{did, deed_quiet, text_quiet}
+use Rattle.replicas.proofs.Runs.{did, deed_quiet}
 use Rattle.replicas.proofs.machine.Replica.does.Goals as goal
 
 pub returns : goal.returns

@@ -1,17 +1,19 @@
 -- Which event a step is told by its number, and the whole step from its part.
-use Rattle.std.proofs.Common.{◌≡◌, ℕ, suc, ◌<◌, ◌≤◌, Bool, true, false, eqb, leb, ◌⊎◌, List, [], ◌∷◌, ◌++◌, length, take, drop, set, Some, None, Ok, Err, Option, Result, sym, refl, ap, ◌∙◌, subst, inl, inr, arith}
-use Rattle.std.proofs.lemmas.Bool.{eqb-true, eqb-false, le-leb}
+use Rattle.std.proofs.Common.{◌≡◌, ℕ, suc, ◌<◌, Bool, true, false, leb, ◌⊎◌, List, [], ◌∷◌, ◌++◌, length, take, drop, set, Some, None, Ok, Err, Option, Result, sym, refl, ap, ◌∙◌, subst, inl, inr, arith}
 use Rattle.std.proofs.lemmas.List.{length-take-le}
 use Rattle.ops.specs.Doc.{pick, write_under, add_to, show_key}
 use Rattle.ops.specs.Values.{held}
 use Rattle.ops.specs.declared.types.Memory.{Memory}
 use Rattle.desks.specs.Run.{Event, opens, said, letter_to, hears, next, Act, Step}
 use Rattle.desks.specs.Machine.{is_open, refusal, step_own}
+use Rattle.desks.specs.Calls.{call_number}
 use Rattle.desks.specs.Entry.{own, event_of, ActTold, StepSays, step_fits}
 use Rattle.desks.specs.Refusals.{number_of}
 use Rattle.desks.specs.Acts.{Acts, quiet, word, rest, posted, Front, Posts, PostsIf}
 use Rattle.desks.specs.Report.{sent_of}
 use Rattle.desks.specs.declared.refusal.Refusal.{Refusal}
+use Rattle.desks.specs.declared.call.Call.{Call}
+use Rattle.desks.specs.declared.call.Call.TheVariants.{Open, Insert, Strike, Write, Add, ShowText, ShowKey, Send, Read, GoOn}
 use Rattle.desks.specs.declared.Told.{Told}
 use Rattle.desks.specs.declared.Told.TheVariants.{Shows, Sends, Done, No}
 use Rattle.desks.proofs.Refusals.{unknown_insert, unknown_strike, unknown-text}
@@ -85,57 +87,52 @@ sent_told (Err k) row out out₁ f = (refl, refl, f)
 pub stepped_sent : (m m₁ : Memory) (k a b : ℕ) (l row out out₁ : List ℕ) → true ≡ step_fits (held m) k l row out → (ev : Event) → event_of k a b l ≡ ev → (r : Told) (cells : List ℕ) → cells ≡ held m₁ → (x : Result ℕ Refusal) →
     PostsIf (leb 4096 (length out)) (step_own (held m) ev) x m m₁ out out₁ → r ≡ sent_of x → StepSays (held m) k a b l row out (step_fits (held m) k l row out) r cells row out₁
 stepped_sent m m₁ k a b l row out out₁ fits ev e r cells back x p er =
-    let q : Posts (step_own (held m) ev) x m m₁ out out₁ = subst (λ c. PostsIf c (step_own (held m) ev) x m m₁ out out₁) (le-leb 4096 (length out) (fits_out (held m) k l row out fits)) p in
+    let q : Posts (step_own (held m) ev) x m m₁ out out₁ = subst (λ c. PostsIf c (step_own (held m) ev) x m m₁ out out₁) (fits_out (held m) k l row out fits) p in
     stepped m m₁ k a b l row row out out₁ fits ev e r cells back (posted out₁ x) q.acts (subst (λ t. ActTold (posted out₁ x) t row row out out₁) (sym er) (sent_told x row out out₁ q.front))
 
--- the events by their numbers
-module _ (k a b : ℕ) (l : List ℕ) where
-  pub told_open : k ≡ 0 → event_of k a b l ≡ opens a
-  unfolding event_of
-  told_open e = rw e refl
+-- the events by their calls
+module _ (k a b : ℕ) (l : List ℕ) (call : Call) (number : call_number call ≡ k) where
+  at : (x : Call) → call ≡ x → k ≡ call_number x
+  at x e = sym number ∙ ap call_number e
 
-  pub told_write : k ≡ 3 → event_of k a b l ≡ said (write_under a b)
+  pub told_open : call ≡ Open → event_of k a b l ≡ opens a
   unfolding event_of
-  told_write e = rw e refl
+  told_open e = rw (at Open e) refl
 
-  pub told_add : k ≡ 4 → event_of k a b l ≡ said (add_to a b)
+  pub told_write : call ≡ Write → event_of k a b l ≡ said (write_under a b)
   unfolding event_of
-  told_add e = rw e refl
+  told_write e = rw (at Write e) refl
 
-  pub told_show : k ≡ 6 → event_of k a b l ≡ said (show_key a)
+  pub told_add : call ≡ Add → event_of k a b l ≡ said (add_to a b)
   unfolding event_of
-  told_show e = rw e refl
+  told_add e = rw (at Add e) refl
 
-  pub told_send : k ≡ 7 → event_of k a b l ≡ letter_to a
+  pub told_show : call ≡ ShowKey → event_of k a b l ≡ said (show_key a)
   unfolding event_of
-  told_send e = rw e refl
+  told_show e = rw (at ShowKey e) refl
 
-  pub told_hear : k ≡ 8 → event_of k a b l ≡ hears a l
+  pub told_send : call ≡ Send → event_of k a b l ≡ letter_to a
   unfolding event_of
-  told_hear e = rw e refl
+  told_send e = rw (at Send e) refl
 
-  pub told_next : k ≡ 9 → event_of k a b l ≡ next
+  pub told_hear : call ≡ Read → event_of k a b l ≡ hears a l
   unfolding event_of
-  told_next e = rw e refl
+  told_hear e = rw (at Read e) refl
+
+  pub told_next : call ≡ GoOn → event_of k a b l ≡ next
+  unfolding event_of
+  told_next e = rw (at GoOn e) refl
 
   -- the others aren't known
-  pub told-unknown : (m : List ℕ) → (k ≡ 1) ⊎ ((k ≡ 2) ⊎ (k ≡ 5)) → refusal m (event_of k a b l) ≡ pick (is_open m) 2 3
+  pub told-unknown : (m : List ℕ) → (call ≡ Insert) ⊎ ((call ≡ Strike) ⊎ (call ≡ ShowText)) → refusal m (event_of k a b l) ≡ pick (is_open m) 2 3
   unfolding event_of
-  told-unknown m (inl e) = rw e (unknown_insert m a b)
-  told-unknown m (inr (inl e)) = rw e (unknown_strike m a)
-  told-unknown m (inr (inr e)) = rw e (unknown-text m)
+  told-unknown m (inl e) = rw (at Insert e) (unknown_insert m a b)
+  told-unknown m (inr (inl e)) = rw (at Strike e) (unknown_strike m a)
+  told-unknown m (inr (inr e)) = rw (at ShowText e) (unknown-text m)
 
-  others : k ≤ 9 → (k ≡ 0 → ⊥) → (k ≡ 3 → ⊥) → (k ≡ 4 → ⊥) → (k ≡ 6 → ⊥) → (k ≡ 7 → ⊥) → (k ≡ 8 → ⊥) → (k ≡ 9 → ⊥) → (k ≡ 1) ⊎ ((k ≡ 2) ⊎ (k ≡ 5))
-  others h h₀ h₃ h₄ h₆ h₇ h₈ h₉ = go (eqb k 1) (eqb k 2) refl refl
-    where
-      go : (s t : Bool) → eqb k 1 ≡ s → eqb k 2 ≡ t → (k ≡ 1) ⊎ ((k ≡ 2) ⊎ (k ≡ 5))
-      go true t p q = inl (eqb-true k 1 p)
-      go false true p q = inr (inl (eqb-true k 2 q))
-      go false false p q = let a = eqb-false k 1 p in let b = eqb-false k 2 q in inr (inr (omega arith))
-
-pub step_unknown : (m : List ℕ) (k a b n : ℕ) (l row out : List ℕ) → true ≡ step_fits m k l row out → k ≤ 9 → (k ≡ 0 → ⊥) → (k ≡ 3 → ⊥) → (k ≡ 4 → ⊥) → (k ≡ 6 → ⊥) → (k ≡ 7 → ⊥) → (k ≡ 8 → ⊥) → (k ≡ 9 → ⊥) →
-    n ≡ pick (is_open m) 2 3 → (cells : List ℕ) → cells ≡ m → (r : Told) → r ≡ No n → StepSays m k a b l row out (step_fits m k l row out) r cells row out
-step_unknown m k a b n l row out fits h h₀ h₃ h₄ h₆ h₇ h₈ h₉ e cells back r er = go (is_open m) e (told-unknown k a b l m (others k a b l h h₀ h₃ h₄ h₆ h₇ h₈ h₉))
+pub step_unknown : (m : List ℕ) (k a b n : ℕ) (l row out : List ℕ) → true ≡ step_fits m k l row out → refusal m (event_of k a b l) ≡ pick (is_open m) 2 3 → n ≡ pick (is_open m) 2 3 →
+    (cells : List ℕ) → cells ≡ m → (r : Told) → r ≡ No n → StepSays m k a b l row out (step_fits m k l row out) r cells row out
+step_unknown m k a b n l row out fits unknown e cells back r er = go (is_open m) e unknown
   where
     ev : Event
     ev = event_of k a b l

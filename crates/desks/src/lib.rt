@@ -6,12 +6,15 @@
 
 ghost use Rattle.std.specs.Prelude.{◌≡◌, ◌+◌, ◌*◌, ◌<◌, length};
 ghost use Rattle.ops.specs.Doc.{id_before};
+ghost use Rattle.desks.specs.Calls.{sizes_fit};
 ghost use Rattle.desks.specs.Entry.{NewestSays, are_names, name_at, StepSays, step_fits};
 
 use crate::report::{done, no, sent, shown_rest, shown_word};
+use call::Call;
 use ops::Memory;
 
 pub mod acts;
+mod call;
 mod refusal;
 mod report;
 
@@ -27,21 +30,6 @@ pub const MEMORY_SIZE: usize = ops::layout::SIZE;
 pub const MOST_BYTES: usize = 4096;
 
 pub const MOST_SHOWN: usize = 8192;
-
-// The kinds of what a machine is told. They are numbers here and nowhere above: a step is called from outside, where there are only numbers and slices.
-const OPEN: u64 = 0;
-
-const WRITE: u64 = 3;
-
-const ADD: u64 = 4;
-
-const SHOW_KEY: u64 = 6;
-
-const SEND: u64 = 7;
-
-const READ: u64 = 8;
-
-const GO_ON: u64 = 9;
 
 #[derive(Clone, Copy, PartialEq, Eq, Debug)]
 pub enum Reply {
@@ -89,22 +77,13 @@ pub fn newest(names: &[u64]) -> Reply
 }
 
 // Whether what is lent is of the right sizes.
-fn fits(memory: &[u64], kind: u64, letter: &[u8], row: &[u64], out: &[u8]) -> bool
-    ensures { result ≡ step_fits memory.now kind letter.now row.now out.now }
+fn fits(memory: &[u64], letter: &[u8], row: &[u64], out: &[u8]) -> bool
+    ensures { result ≡ sizes_fit memory.now letter.now row.now out.now }
 {
-    if memory.len() != MEMORY_SIZE {
-        return false;
-    }
-    if kind > GO_ON {
-        return false;
-    }
-    if letter.len() > MOST_BYTES {
-        return false;
-    }
-    if row.len() < MOST_SHOWN {
-        return false;
-    }
-    out.len() >= MOST_BYTES
+    memory.len() == MEMORY_SIZE
+        && letter.len() <= MOST_BYTES
+        && row.len() >= MOST_SHOWN
+        && out.len() >= MOST_BYTES
 }
 
 // One step: the machine is told one thing, and does one act.
@@ -119,18 +98,22 @@ pub fn step(
 ) -> Told
     ensures { StepSays memory.old kind a b letter.now row.old out.old (step_fits memory.old kind letter.now row.old out.old) result memory.new row.new out.new }
 {
-    if !fits(memory, kind, letter, row, out) {
+    if !fits(memory, letter, row, out) {
         return no(Refusal::Unfit);
     }
+    let call = match Call::try_from(kind) {
+        Ok(call) => call,
+        Err(refusal) => return no(refusal),
+    };
     let mut memory = Memory { cells: memory };
-    match kind {
-        OPEN => done(acts::open(&mut memory, a)),
-        WRITE => done(acts::write(&mut memory, a, b)),
-        ADD => done(acts::add(&mut memory, a, b)),
-        SHOW_KEY => shown_word(acts::show_key(&mut memory, a), row),
-        SEND => sent(acts::send(&mut memory, a, out)),
-        READ => done(acts::read(&mut memory, a, letter)),
-        GO_ON => shown_rest(acts::go_on(&mut memory), row),
-        _ => no(acts::refusal_of_unknown(&memory)),
+    match call {
+        Call::Open => done(acts::open(&mut memory, a)),
+        Call::Write => done(acts::write(&mut memory, a, b)),
+        Call::Add => done(acts::add(&mut memory, a, b)),
+        Call::ShowKey => shown_word(acts::show_key(&mut memory, a), row),
+        Call::Send => sent(acts::send(&mut memory, a, out)),
+        Call::Read => done(acts::read(&mut memory, a, letter)),
+        Call::GoOn => shown_rest(acts::go_on(&mut memory), row),
+        Call::Insert | Call::Strike | Call::ShowText => no(acts::refusal_of_unknown(&memory)),
     }
 }

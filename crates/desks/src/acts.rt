@@ -36,11 +36,9 @@ fn this_desk(memory: &Memory) -> Result<Desk, Refusal>
 fn peer_of(desk: Desk, number: u64) -> Result<Desk, Refusal>
     ensures { Passes desk_of ((number < 32) × (number ≢ desk_of desk)) number Refusal.Malformed result }
 {
-    let peer = Desk::new(number).ok_or(Refusal::Malformed)?;
-    if peer == desk {
-        return Err(Refusal::Malformed);
-    }
-    Ok(peer)
+    Desk::new(number)
+        .filter(|peer| *peer != desk)
+        .ok_or(Refusal::Malformed)
 }
 
 // A number of 32 bits.
@@ -136,7 +134,7 @@ pub fn go_on(memory: &mut Memory) -> Result<Option<u64>, Refusal>
     if memory.cells[PENDING] != 1 {
         return Ok(None);
     }
-    let key = (memory.cells[KEY] % 4_294_967_296) as u32;
+    let key = memory.low_half(KEY);
     let tally = keys::tally(memory, key);
     memory.cells[PENDING] = 0;
     Ok(Some(tally))
@@ -146,6 +144,7 @@ pub fn go_on(memory: &mut Memory) -> Result<Option<u64>, Refusal>
 pub fn send(memory: &mut Memory, to: u64, out: &mut [u8]) -> Result<usize, Refusal>
     ensures { PostsIf (nat_le 4096 (length out.old)) (step_own (held memory.old) (letter_to to)) result memory.old memory.new out.old out.new }
 {
+    // This comes before all that the memory decides. Below it a letter is always written.
     if out.len() < MOST_BYTES {
         return Err(Refusal::Unfit);
     }

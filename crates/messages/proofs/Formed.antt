@@ -43,7 +43,7 @@ and_true : (a : Bool) → a && true ≡ a
 and_true true = refl
 and_true false = refl
 
-all_more : (f : ℕ → Bool) (a n : ℕ) → list_all f (range_with_len a (suc n)) ≡ list_all f (range_with_len a n) && f (a + n)
+pub all_more : (f : ℕ → Bool) (a n : ℕ) → list_all f (range_with_len a (suc n)) ≡ list_all f (range_with_len a n) && f (a + n)
 all_more f a zero = and_true (f a) ∙ ap f (omega arith)
 all_more f a (suc n) =
     let e : a + 1 + n ≡ a + suc n = omega arith in

@@ -13,7 +13,7 @@ use Rattle.desks.specs.declared.refusal.Refusal.{Refusal}
 use Rattle.replicas.specs.Replica.{command_of}
 use Rattle.replicas.specs.Steps.{event_of, Tells, PostsIf}
 use Rattle.replicas.specs.declared.machine.Deed.{Deed}
-use Rattle.replicas.specs.declared.acts.Told.{Told}
+use Rattle.replicas.specs.declared.acts.Asked.{Asked}
 
 -- a row that is lent whole and comes back as long as it was
 abbrev pub Back : ℕ → List ℕ → List ℕ → List ℕ
@@ -67,5 +67,5 @@ unknown_acts m ev r e f = let t = unknown_tells (held m) ev r e f in record { af
 pub deed_acts : (m m₁ : Memory) (a : Act) {d d₁ : Deed} → d ≡ d₁ → acts.Acts (step_own (held m) (said (command_of d₁))) a m m₁ → acts.Acts (step_own (held m) (said (command_of d))) a m m₁
 deed_acts m m₁ a e h = subst (λ d. acts.Acts (step_own (held m) (said (command_of d))) a m m₁) (sym e) h
 
-pub told_tells : (m m₁ : List ℕ) (a : Act) {t t₁ : Told} → t ≡ t₁ → Tells (step_own m (event_of t₁)) a m₁ → Tells (step_own m (event_of t)) a m₁
+pub told_tells : (m m₁ : List ℕ) (a : Act) {t t₁ : Asked} → t ≡ t₁ → Tells (step_own m (event_of t₁)) a m₁ → Tells (step_own m (event_of t)) a m₁
 told_tells m m₁ a e h = subst (λ t. Tells (step_own m (event_of t)) a m₁) (sym e) h

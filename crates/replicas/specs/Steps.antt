@@ -6,11 +6,11 @@ use Rattle.desks.specs.Acts.{posted, Front}
 use Rattle.desks.specs.declared.refusal.Refusal.{Refusal}
 use Rattle.desks.specs.declared.refusal.Refusal.TheVariants.{Unfit}
 use Rattle.replicas.specs.Replica.{command_of}
-use Rattle.replicas.specs.declared.acts.Told.{Told}
-use Rattle.replicas.specs.declared.acts.Told.TheVariants.{Open, Do, ShowText, Read}
+use Rattle.replicas.specs.declared.acts.Asked.{Asked}
+use Rattle.replicas.specs.declared.acts.Asked.TheVariants.{Open, Do, ShowText, Read}
 
 -- what it is told, as the machine's event
-abbrev pub event_of : Told → Event
+abbrev pub event_of : Asked → Event
 event_of (Open desk) = opens desk
 event_of (Do deed) = said (command_of deed)
 event_of ShowText = said show_text

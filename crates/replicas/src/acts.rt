@@ -13,15 +13,16 @@ use crate::machine::Deed;
 use desks::{Refusal, acts};
 use ops::Memory;
 
-// What the machine does at once, and of which it shows nothing.
+// What a machine is asked that it does at once, with nothing to show.
 #[derive(Clone, Copy)]
-pub enum Told<'a> {
+pub enum Asked<'a> {
     Open { desk: u64 },
     Do { deed: Deed },
     ShowText,
     Read { from: u64, letter: &'a [u8] },
 }
 
+// A deed.
 fn does(memory: &mut Memory, deed: Deed) -> Result<(), Refusal>
     ensures { Acts (step_own (held memory.old) (said (command_of deed))) (quiet result) memory.old memory.new }
 {
@@ -33,16 +34,17 @@ fn does(memory: &mut Memory, deed: Deed) -> Result<(), Refusal>
     }
 }
 
-pub fn tell(cells: &mut [u64], told: Told) -> Result<(), Refusal>
+// Asks it of the machine in these cells. They are a slice and no `Memory`, since what comes back to the vector that lends them is known of a slice alone.
+pub fn tell(cells: &mut [u64], asked: Asked) -> Result<(), Refusal>
     requires { memory_size ≤ length cells.old }
-    ensures { Tells (step_own cells.old (event_of told.entry)) (quiet result) cells.new }
+    ensures { Tells (step_own cells.old (event_of asked.entry)) (quiet result) cells.new }
 {
     let mut memory = Memory { cells };
-    match told {
-        Told::Open { desk } => acts::open(&mut memory, desk),
-        Told::Do { deed } => does(&mut memory, deed),
-        Told::ShowText => Err(acts::refusal_of_unknown(&memory)),
-        Told::Read { from, letter } => acts::read(&mut memory, from, letter),
+    match asked {
+        Asked::Open { desk } => acts::open(&mut memory, desk),
+        Asked::Do { deed } => does(&mut memory, deed),
+        Asked::ShowText => Err(acts::refusal_of_unknown(&memory)),
+        Asked::Read { from, letter } => acts::read(&mut memory, from, letter),
     }
 }
 

@@ -1,7 +1,7 @@
 // A replica: a desk's machine with a memory of its own.
 //
-// The machine does one act at a time; a replica is told something and lets it go on to the end. What comes of that is the run that the main theorem
-// speaks of (`runs_on`, for the machine `own`), and each method says so.
+// The machine does one act at a time, and a method is one act, or two where the machine goes on. What comes of it is the run that the main theorem speaks
+// of (`runs_on`, for the machine `own`), and each method says so.
 #![tactic(auto)]
 
 mod acts;

@@ -1,4 +1,4 @@
-// The vocabulary: a replica, what it can be told to do, and why there is none.
+// The vocabulary: a replica, what it can be told to do, and what it shows of a key.
 ghost use Rattle.std.specs.Prelude.{◌≡◌, vec_len};
 ghost use Rattle.ops.specs.Layout.{memory_size};
 

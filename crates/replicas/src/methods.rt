@@ -8,12 +8,11 @@ ghost use Rattle.desks.specs.Entry.{own};
 ghost use Rattle.network.specs.Room.{level};
 ghost use Rattle.replicas.specs.Replica.{memory_of, run, command_of, Did, Showed, Writes, Read, Opened};
 
-use crate::acts;
-use crate::acts::Told;
+use crate::acts::{self, Asked};
 use crate::fault::Fault;
 use crate::machine::{Deed, Key, Replica};
-use desks::{MEMORY_SIZE, MOST_BYTES, Refusal};
-use ops::layout::{CAPACITY, DESKS, LENGTH, VERSION};
+use desks::{DESKS, MEMORY_SIZE, MOST_BYTES, Refusal};
+use ops::layout::{CAPACITY, LENGTH, VERSION};
 use std::alloc::{AllocError, Global};
 
 impl Replica {
@@ -31,7 +30,7 @@ impl Replica {
         ensures { Opened desk result }
     {
         let mut replica = Replica::blank(heap)?;
-        acts::tell(replica.memory.as_mut_slice(), Told::Open { desk })?;
+        acts::tell(replica.memory.as_mut_slice(), Asked::Open { desk })?;
         Ok(replica)
     }
 
@@ -39,14 +38,14 @@ impl Replica {
     pub fn does(&mut self, deed: Deed) -> Result<(), Refusal>
         ensures { Did (run self.old (said (command_of deed))) result (memory_of self.new) }
     {
-        acts::tell(self.memory.as_mut_slice(), Told::Do { deed })
+        acts::tell(self.memory.as_mut_slice(), Asked::Do { deed })
     }
 
     // Shows the text: refused, since no machine knows it yet.
     pub fn text(&mut self) -> Result<(), Refusal>
         ensures { Did (run self.old (said show_text)) result (memory_of self.new) }
     {
-        acts::tell(self.memory.as_mut_slice(), Told::ShowText)
+        acts::tell(self.memory.as_mut_slice(), Asked::ShowText)
     }
 
     // Shows a key.
@@ -72,7 +71,7 @@ impl Replica {
         if letter.len() > MOST_BYTES {
             return Err(Refusal::Malformed);
         }
-        acts::tell(self.memory.as_mut_slice(), Told::Read { from, letter })
+        acts::tell(self.memory.as_mut_slice(), Asked::Read { from, letter })
     }
 
     // How many operations it knows.
@@ -87,7 +86,7 @@ impl Replica {
     pub fn version(&self, desk: u64) -> u64
         ensures { result ≡ pick (nat_lt desk 32) (low (memory_of self.now) (version_cell desk)) 0 }
     {
-        if desk >= DESKS as u64 {
+        if desk >= DESKS {
             return 0;
         }
         self.memory[VERSION + desk as usize] % 4_294_967_296
@@ -97,11 +96,6 @@ impl Replica {
     pub fn is_level_with(&self, other: &Replica) -> bool
         ensures { result ≡ level (memory_of self.now) (memory_of other.now) }
     {
-        for desk in 0..DESKS as u64 {
-            if self.version(desk) != other.version(desk) {
-                return false;
-            }
-        }
-        true
+        (0..DESKS).all(|desk| self.version(desk) == other.version(desk))
     }
 }

@@ -1,5 +1,5 @@
 // Two desks that meet: one makes a letter, the other reads it and makes one, which the first reads; and so on until both know the same.
-ghost use Rattle.std.specs.Prelude.{◌≡◌, ◌≤◌, length, vec_len};
+ghost use Rattle.std.specs.Prelude.{◌≡◌, vec_len};
 ghost use Rattle.simulator.specs.Rooms.{memories};
 ghost use Rattle.simulator.specs.Meetings.{Passed, Paired, Met};
 
@@ -26,22 +26,19 @@ struct Mail {
 }
 
 // A letter from one desk to the other.
-fn pass(desks: &mut Vec<Replica>, mail: &mut [u8], two: Two) -> Mail
-    requires desks { vec_len desks.old ≡ 32 }
-    requires mail { 4096 ≤ length mail.old }
+fn pass(desks: &mut Vec<Replica>, mail: &mut [u8; MOST_BYTES], two: Two) -> Mail
+    requires { vec_len desks.old ≡ 32 }
     ensures passed { Passed (memories desks.old) two.one two.other result.fair result.bytes (memories desks.new) }
     ensures count { vec_len desks.new ≡ 32 }
 {
     let Ok(size) = desks[two.one].letter(two.other as u64, mail) else {
-        let _none = desks[two.other].hear(two.one as u64, &[]);
+        let _ = desks[two.other].hear(two.one as u64, &[]);
         return Mail {
             bytes: 0,
             fair: false,
         };
     };
-    let fair = desks[two.other]
-        .hear(two.one as u64, &mail[0..size])
-        .is_ok();
+    let fair = desks[two.other].hear(two.one as u64, &mail[..size]).is_ok();
     Mail {
         bytes: size as u64,
         fair,
@@ -82,7 +79,7 @@ pub fn meet(desks: &mut Vec<Replica>, two: Two) -> Meeting
         }
         let mail = pair(desks, two);
         bytes += mail.bytes;
-        fair = fair & mail.fair;
+        fair &= mail.fair;
     }
     Meeting {
         pairs: most as u64,

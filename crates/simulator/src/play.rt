@@ -1,5 +1,5 @@
 // Items are played one at a time.
-ghost use Rattle.std.specs.Prelude.{◌≡◌, not, ◌&&◌, IfOk, ◌==◌, nat_lt};
+ghost use Rattle.std.specs.Prelude.{◌≡◌, IfOk};
 ghost use Rattle.desks.specs.Run.{said, at_desk, makes, comes, meet as meets};
 ghost use Rattle.network.specs.Room.{first_room};
 ghost use Rattle.replicas.specs.Replica.{memory_of, run};

@@ -19,13 +19,7 @@ impl Two {
     pub fn new(one: u64, other: u64) -> Result<Two, Refusal>
         ensures { AreTwo one other result }
     {
-        if one >= DESKS {
-            return Err(Refusal::Malformed);
-        }
-        if other >= DESKS {
-            return Err(Refusal::Malformed);
-        }
-        if one == other {
+        if one >= DESKS || other >= DESKS || one == other {
             return Err(Refusal::Malformed);
         }
         Ok(Two {

@@ -1,4 +1,7 @@
-use Rattle.std.proofs.Common.{refl}
+use Rattle.std.proofs.Common.{refl, ap, ◌∙◌}
+use Rattle.ops.specs.Doc.{count_at}
+use Rattle.ops.specs.Log.{ops_of}
+use Rattle.ops.specs.Values.{held}
 use Rattle.desks.specs.Run.{next}
 use Rattle.desks.proofs.Refusals.{next_closed}
 use Rattle.desks.proofs.Telling.{leaves_rest}
@@ -12,4 +15,4 @@ pub returns-then-memory-ne1 : goal.returns-then-memory-ne1
 returns-then-memory-ne1 c = goes_done _ c.in_ok-this_desk.ensures.0 c.if-memory-ne1.true
 
 pub returns : goal.returns
-returns c = goes_tally _ _ _ c.in_ok-this_desk.ensures.0 c.if-memory-ne1.false c.tally-tally.ensures (record { after = refl; same = refl })
+returns c = goes_tally _ _ _ c.in_ok-this_desk.ensures.0 c.if-memory-ne1.false (c.tally-tally.ensures ∙ ap (λ k. count_at (ops_of (held c.args.memory.now)) k) c.low_half-key.ensures) (record { after = refl; same = refl })

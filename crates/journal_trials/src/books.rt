@@ -66,31 +66,32 @@ fn read(book: &[u8]) -> (usize, Ending) {
     (ENTRIES, Ending::Wrong)
 }
 
-// How many entries end within the first `n` bytes, and whether the last of them ends there.
-fn whole_within(n: usize) -> (usize, bool) {
+// How reading ends where so many bytes are left of an entry.
+fn ending_with(left: usize) -> Ending {
+    if left == 0 {
+        Ending::End
+    } else {
+        Ending::Flawed(Flaw::Torn)
+    }
+}
+
+// How many entries end within the first `n` bytes, and how reading only those bytes ends.
+fn whole_within(n: usize) -> (usize, Ending) {
     let mut left = n;
     for k in 0..ENTRIES {
         let size = true_entry(k).letter.len().saturating_add(FRAME);
         if left < size {
-            return (k, left == 0);
+            return (k, ending_with(left));
         }
         left -= size;
     }
-    (ENTRIES, left == 0)
+    (ENTRIES, ending_with(left))
 }
 
 // At how many lengths in a row, from 0 on, the cut book gives the whole entries and ends as it should.
 fn good_cuts(book: &[u8]) -> usize {
     (0..book.len())
-        .take_while(|&n| {
-            let (entries, at_end) = whole_within(n);
-            let ending = if at_end {
-                Ending::End
-            } else {
-                Ending::Flawed(Flaw::Torn)
-            };
-            read(&book[..n]) == (entries, ending)
-        })
+        .take_while(|&n| read(&book[..n]) == whole_within(n))
         .count()
 }
 

@@ -1,4 +1,5 @@
 // A book of five entries, cut off at every length, and with single bits flipped in every byte.
+use crate::flips::good_flips;
 use journals::{Entry, Fault, Flaw, next_entry, write_entry};
 use std::alloc::Global;
 use std::test::Fail;
@@ -95,17 +96,10 @@ fn good_cuts(book: &[u8]) -> usize {
         .count()
 }
 
-// At how many bytes in a row flipped bits are seen as damage, right behind the entries before.
-fn good_flips(book: &mut [u8], bits: u8) -> usize {
-    for i in 0..book.len() {
-        book[i] ^= bits;
-        let (entries, _) = whole_within(i);
-        if read(book) != (entries, Ending::Flawed(Flaw::Damaged)) {
-            return i;
-        }
-        book[i] ^= bits;
-    }
-    book.len()
+// Whether a book with a flipped bit in this byte is damaged, right behind the entries before.
+fn is_damaged_at(book: &[u8], byte: usize) -> bool {
+    let (entries, _) = whole_within(byte);
+    read(book) == (entries, Ending::Flawed(Flaw::Damaged))
 }
 
 #[test]
@@ -126,8 +120,8 @@ fn a_cut_book_has_its_first_entries(rt: HostRuntime) -> Result<(), Fail> {
 fn a_flipped_bit_is_damage(rt: HostRuntime) -> Result<(), Fail> {
     let mut book = written(rt.alloc())?;
     let n = book.len();
-    assert_eq!(rt; good_flips(&mut book, LOWEST_BIT), n);
-    assert_eq!(rt; good_flips(&mut book, HIGHEST_BIT), n);
+    assert_eq!(rt; good_flips(&mut book, LOWEST_BIT, is_damaged_at), n);
+    assert_eq!(rt; good_flips(&mut book, HIGHEST_BIT, is_damaged_at), n);
     assert!(rt;
         read(&book) == (ENTRIES, Ending::End),
         "and the book is as it was"

@@ -1,4 +1,5 @@
 // A book of five entries, cut off at every length, and with single bits flipped in every byte.
+use crate::flips::good_flips;
 use journals::{Entry, Fault, Flaw, next_entry, write_entry};
 use std::alloc::Global;
 use std::test::Fail;
@@ -66,45 +67,39 @@ fn read(book: &[u8]) -> (usize, Ending) {
     (ENTRIES, Ending::Wrong)
 }
 
-// How many entries end within the first `n` bytes, and whether the last of them ends there.
-fn whole_within(n: usize) -> (usize, bool) {
+// How reading ends where so many bytes are left of an entry.
+fn ending_with(left: usize) -> Ending {
+    if left == 0 {
+        Ending::End
+    } else {
+        Ending::Flawed(Flaw::Torn)
+    }
+}
+
+// How many entries end within the first `n` bytes, and how reading only those bytes ends.
+fn whole_within(n: usize) -> (usize, Ending) {
     let mut left = n;
     for k in 0..ENTRIES {
         let size = true_entry(k).letter.len().saturating_add(FRAME);
         if left < size {
-            return (k, left == 0);
+            return (k, ending_with(left));
         }
         left -= size;
     }
-    (ENTRIES, left == 0)
+    (ENTRIES, ending_with(left))
 }
 
 // At how many lengths in a row, from 0 on, the cut book gives the whole entries and ends as it should.
 fn good_cuts(book: &[u8]) -> usize {
     (0..book.len())
-        .take_while(|&n| {
-            let (entries, at_end) = whole_within(n);
-            let ending = if at_end {
-                Ending::End
-            } else {
-                Ending::Flawed(Flaw::Torn)
-            };
-            read(&book[..n]) == (entries, ending)
-        })
+        .take_while(|&n| read(&book[..n]) == whole_within(n))
         .count()
 }
 
-// At how many bytes in a row flipped bits are seen as damage, right behind the entries before.
-fn good_flips(book: &mut [u8], bits: u8) -> usize {
-    for i in 0..book.len() {
-        book[i] ^= bits;
-        let (entries, _) = whole_within(i);
-        if read(book) != (entries, Ending::Flawed(Flaw::Damaged)) {
-            return i;
-        }
-        book[i] ^= bits;
-    }
-    book.len()
+// Whether a book with a flipped bit in this byte is damaged, right behind the entries before.
+fn is_damaged_at(book: &[u8], byte: usize) -> bool {
+    let (entries, _) = whole_within(byte);
+    read(book) == (entries, Ending::Flawed(Flaw::Damaged))
 }
 
 #[test]
@@ -125,8 +120,8 @@ fn a_cut_book_has_its_first_entries(rt: HostRuntime) -> Result<(), Fail> {
 fn a_flipped_bit_is_damage(rt: HostRuntime) -> Result<(), Fail> {
     let mut book = written(rt.alloc())?;
     let n = book.len();
-    assert_eq!(rt; good_flips(&mut book, LOWEST_BIT), n);
-    assert_eq!(rt; good_flips(&mut book, HIGHEST_BIT), n);
+    assert_eq!(rt; good_flips(&mut book, LOWEST_BIT, is_damaged_at), n);
+    assert_eq!(rt; good_flips(&mut book, HIGHEST_BIT, is_damaged_at), n);
     assert!(rt;
         read(&book) == (ENTRIES, Ending::End),
         "and the book is as it was"

@@ -1,4 +1,5 @@
 // Headers: of every desk, cut off, of another version, and damaged.
+use crate::flips::good_flips;
 use journals::HeaderFault::{self, Damaged, NotABook, OtherVersion};
 use journals::{header, read_header};
 
@@ -20,16 +21,11 @@ fn flaw(byte: usize, flipped: u8) -> HeaderFault {
     }
 }
 
-// At how many bytes in a row flipped bits leave no book: in its title, its version, and the rest.
-fn good_flips(bytes: &mut [u8], bits: u8) -> usize {
-    for i in 0..bytes.len() {
-        bytes[i] ^= bits;
-        if read_header(bytes) != Err(flaw(i, bytes[i])) {
-            return i;
-        }
-        bytes[i] ^= bits;
-    }
-    bytes.len()
+// Whether a header with flipped bits in this byte is none: for its title, its version, or the rest.
+fn is_flawed_at(bytes: &[u8], byte: usize) -> bool {
+    bytes
+        .get(byte)
+        .is_some_and(|flipped| read_header(bytes) == Err(flaw(byte, *flipped)))
 }
 
 #[test]
@@ -48,8 +44,8 @@ fn headers_are_read_again(rt: HostRuntime) {
 
 #[test]
 fn damaged_headers_are_none(rt: HostRuntime) {
-    assert_eq!(rt; good_flips(&mut header(7), 0x01), 12);
-    assert_eq!(rt; good_flips(&mut header(31), 0x80), 12);
+    assert_eq!(rt; good_flips(&mut header(7), 0x01, is_flawed_at), 12);
+    assert_eq!(rt; good_flips(&mut header(31), 0x80, is_flawed_at), 12);
     assert!(rt; read_header(&header(7)[..11]) == Err(NotABook));
     assert!(rt; read_header(b"") == Err(NotABook));
 }

@@ -1,6 +1,6 @@
 // The bytes of an entry, computed by another program; and the longest letter.
 use journals::{Entry, Fault, next_entry, write_entry};
-use std::alloc::{AllocError, Global};
+use std::alloc::Global;
 use std::test::Fail;
 
 const LONGEST_LETTER: usize = 4096;
@@ -22,8 +22,8 @@ fn an_entry_byte_by_byte(rt: HostRuntime) -> Result<(), Fail> {
     Ok(())
 }
 
-// How many bytes an entry with a letter of so many takes, if it is written and read again; 0 where it is too long.
-fn size_with(heap: Global, letter_size: usize) -> Result<usize, AllocError> {
+// How many bytes an entry with a letter of so many takes, if it is read again; and why it isn't written.
+fn size_with(heap: Global, letter_size: usize) -> Result<Option<usize>, Fault> {
     let letter = vec![in heap; 0xff; letter_size]?;
     let entry = Entry {
         kind: 8,
@@ -31,20 +31,16 @@ fn size_with(heap: Global, letter_size: usize) -> Result<usize, AllocError> {
         b: 0,
         letter: &letter,
     };
-    match write_entry(heap, entry) {
-        Ok(bytes) => match next_entry(&bytes) {
-            Ok(Some(next)) => Ok(next.size),
-            _ => Err(AllocError),
-        },
-        Err(Fault::TooLong) => Ok(0),
-        Err(Fault::NoMemory) => Err(AllocError),
+    let bytes = write_entry(heap, entry)?;
+    match next_entry(&bytes) {
+        Ok(Some(next)) => Ok(Some(next.size)),
+        _ => Ok(None),
     }
 }
 
 #[test]
-fn the_longest_letter(rt: HostRuntime) -> Result<(), Fail> {
+fn the_longest_letter(rt: HostRuntime) {
     let heap = rt.alloc();
-    assert_eq!(rt; size_with(heap, LONGEST_LETTER)?, LONGEST_ENTRY);
-    assert_eq!(rt; size_with(heap, LONGEST_LETTER + 1)?, 0);
-    Ok(())
+    assert_eq!(rt; size_with(heap, LONGEST_LETTER), Ok(Some(LONGEST_ENTRY)));
+    assert_eq!(rt; size_with(heap, LONGEST_LETTER + 1), Err(Fault::TooLong));
 }

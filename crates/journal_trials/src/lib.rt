@@ -4,6 +4,8 @@
 #[cfg(test)]
 mod books;
 #[cfg(test)]
+mod flips;
+#[cfg(test)]
 mod headers;
 #[cfg(test)]
 mod layout;

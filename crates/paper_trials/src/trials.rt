@@ -1,9 +1,9 @@
-// The trials.
+// The trials, and the numbers of refusals.
 use crate::desk::Desk;
 use crate::steps::Step::{Does, Keeps, Shows, Tells};
 use crate::steps::{Step, good_steps};
 use papers::Command::{Add, Insert, Strike, Write};
-use papers::Refusal::{NoSuchPlace, TooMany};
+use papers::Refusal::{NoNumber, NoSuchPlace, TooMany};
 use std::test::Fail;
 
 const F: u64 = b'f' as u64;
@@ -107,6 +107,11 @@ fn the_keys(rt: HostRuntime) -> Result<(), Fail> {
 fn stretches_stay_whole(rt: HostRuntime) -> Result<(), Fail> {
     assert_eq!(rt; good_steps(rt.alloc(), &STRETCHES)?, 14);
     Ok(())
+}
+
+#[test]
+fn the_numbers_of_refusals(rt: HostRuntime) {
+    assert_eq!(rt; [NoSuchPlace, TooMany, NoNumber].map(u64::from), [4, 7, 8]);
 }
 
 // A desk that has done 256 deeds has done too many, but a place that isn't there is refused first.

@@ -1,9 +1,8 @@
 // A desk with its memory and the buffers that it is lent, as the tests use it; and desks that meet.
 use desks::{MEMORY_SIZE, MOST_BYTES, MOST_SHOWN, Refusal, Told};
-use ops::layout::{DESKS, LENGTH, VERSION};
 use std::alloc::{AllocError, Global};
 
-// What a desk is told, which knows it by its number.
+// What a desk is told. The kinds' numbers are the test's own, and one of them is no desk's.
 #[derive(Clone, Copy)]
 pub enum Kind {
     Open,
@@ -19,6 +18,16 @@ pub enum Kind {
     // One more than there are.
     NoKind,
 }
+
+// Where a memory has how many operations are known, and the highest number of each of 32 desks': the test's own figures.
+const KNOWN: usize = 3;
+
+const VERSIONS: usize = 32;
+
+const MOST_DESKS: usize = 32;
+
+// How many deeds a desk may do: the test's own figure.
+pub const MOST_DEEDS: u64 = 256;
 
 // What stands in the buffers before a desk writes there, which is nothing that a test makes it write.
 const UNTOUCHED: u64 = 987_654_321;
@@ -165,12 +174,14 @@ impl Desk {
 
     // How many operations it knows.
     pub fn known(&self) -> u64 {
-        self.memory.get(LENGTH).copied().unwrap_or(0)
+        self.memory.get(KNOWN).copied().unwrap_or(0)
     }
 
     // The highest numbers of the desks' operations that it knows.
     fn version(&self) -> &[u64] {
-        self.memory.get(VERSION..VERSION + DESKS).unwrap_or(&[])
+        self.memory
+            .get(VERSIONS..VERSIONS + MOST_DESKS)
+            .unwrap_or(&[])
     }
 
     // The number that its next operation gets.

@@ -22,12 +22,9 @@ fn refuses_letter(desk: &mut Desk, letter: &[u8]) -> bool {
 
 // How many proper prefixes in a row are refused.
 fn refused_prefixes(desk: &mut Desk, letter: &[u8]) -> usize {
-    for n in 0..letter.len() {
-        if !refuses_letter(desk, &letter[0..n]) {
-            return n;
-        }
-    }
-    letter.len()
+    (0..letter.len())
+        .take_while(|&n| refuses_letter(desk, &letter[..n]))
+        .count()
 }
 
 // How many bytes in a row can have some bits flipped, so that the letter is refused.
@@ -53,12 +50,9 @@ fn refuses_noise(heap: Global, desk: &mut Desk, draw: &mut Draw, n: usize) -> bo
 
 fn refused_noises(heap: Global, desk: &mut Desk) -> usize {
     let mut draw = Draw::new(7);
-    for n in 0..LENGTHS {
-        if !refuses_noise(heap, desk, &mut draw, n) {
-            return n;
-        }
-    }
-    LENGTHS
+    (0..LENGTHS)
+        .take_while(|&n| refuses_noise(heap, desk, &mut draw, n))
+        .count()
 }
 
 // A desk that has something to lose.

@@ -13,6 +13,8 @@ mod full;
 #[cfg(test)]
 mod junk;
 #[cfg(test)]
+mod model;
+#[cfg(test)]
 mod network;
 #[cfg(test)]
 mod refusals;

@@ -1,6 +1,6 @@
 // Two desks that write under one key; and three desks whose letters are thrown away, read twice, or read late and in any order.
 use crate::desk::{Desk, Kind, meet, pass};
-use papers::{Deed, Name, Paper, What};
+use crate::model::{self, Deed, What};
 use plans::Draw;
 use std::test::Fail;
 
@@ -18,8 +18,7 @@ struct Letter {
 #[derive(Drop)]
 struct Network {
     draw: Draw,
-    // What the desks should show.
-    paper: Paper,
+    deeds: Vec<Deed>,
     late: Vec<Letter>,
 }
 
@@ -27,18 +26,20 @@ impl Network {
     // A desk writes a word or adds an amount, and the deed is noted.
     fn act(&mut self, desk: &mut Desk) -> bool {
         let is_word = self.draw.below(2) == 0;
-        let name = Name {
-            number: desk.next_number(),
-            desk: desk.number,
-        };
+        let number = desk.next_number();
         let key = self.draw.below(KEYS);
         let value = self.draw.below(1000);
         let (kind, what) = if is_word {
-            (Kind::Write, What::Write { key, word: value })
+            (Kind::Write, What::Word { key, word: value })
         } else {
-            (Kind::Add, What::Add { key, amount: value })
+            (Kind::Add, What::Amount { key, amount: value })
         };
-        desk.deed(kind, key, value) && self.paper.hear(Deed { name, what }) == Ok(true)
+        let deed = Deed {
+            number,
+            desk: desk.number,
+            what,
+        };
+        desk.deed(kind, key, value) && self.deeds.push(deed).is_ok()
     }
 
     // What becomes of a letter: it is thrown away, read, read twice, or kept.
@@ -78,17 +79,18 @@ impl Network {
         self.act(desk) && self.mail(desk, left) && self.mail(desk, right) && self.late_mail(desk)
     }
 
-    // Whether a desk shows a key as the paper does.
-    fn is_key_shown_by(&self, desk: &mut Desk, key: u64) -> bool {
-        desk.key(key).is_some_and(|(word, tally)| {
-            word == self.paper.word(key) && u128::from(tally) == self.paper.tally(key)
-        })
+    // What the model says of a key.
+    fn expected(&self, key: u64) -> (Option<u64>, u64) {
+        (
+            model::word(&self.deeds, key),
+            model::tally(&self.deeds, key),
+        )
     }
 
-    // Whether a desk knows every deed, and shows each key as the paper does.
+    // Whether a desk knows every deed, and shows of each key what the model says.
     fn is_shown_by(&self, desk: &mut Desk) -> bool {
-        (0..KEYS).all(|key| self.is_key_shown_by(desk, key))
-            && desk.known() == self.paper.len() as u64
+        (0..KEYS).all(|key| desk.key(key) == Some(self.expected(key)))
+            && desk.known() == self.deeds.len() as u64
     }
 }
 
@@ -118,7 +120,7 @@ fn three_agree(
         return Err(Fail::new("they don't come to agree"));
     }
     if !(network.is_shown_by(a) && network.is_shown_by(b) && network.is_shown_by(c)) {
-        return Err(Fail::new("the paper says something else"));
+        return Err(Fail::new("the model says something else"));
     }
     Ok(())
 }
@@ -131,7 +133,7 @@ fn letters_lost_doubled_and_late(rt: HostRuntime) -> Result<(), Fail> {
     let mut c = Desk::opened(heap, 2)?;
     let mut network = Network {
         draw: Draw::new(1),
-        paper: Paper::new(heap),
+        deeds: Vec::new(heap),
         late: Vec::new(heap),
     };
     three_agree(&mut network, &mut a, &mut b, &mut c)

@@ -1,8 +1,8 @@
-// Every refusal with its number; what is refused changes nothing.
+// Every refusal, and its number; what is refused changes nothing.
 use crate::desk::Kind::{
     Add, GoOn, Insert, NoKind, Open, Read, Send, ShowKey, ShowText, Strike, Write,
 };
-use crate::desk::{Desk, Kind};
+use crate::desk::{Desk, Kind, MOST_DEEDS};
 use crate::seal::forged;
 use desks::Refusal::{Closed, Malformed, NoRoom, Unfit, Unknown};
 use desks::{MEMORY_SIZE, MOST_BYTES, MOST_SHOWN, Refusal};
@@ -12,10 +12,16 @@ use std::test::Fail;
 // The first number that has more than 32 bits.
 const LARGE: u64 = 4_294_967_296;
 
-const MOST_DEEDS: u64 = 256;
-
 // What it is told, with which two numbers, and how it is refused.
 type Row = (Kind, u64, u64, Refusal);
+
+#[test]
+fn the_numbers(rt: HostRuntime) {
+    assert_eq!(rt;
+        [Unfit, Malformed, Unknown, Closed, NoRoom].map(u64::from),
+        [0, 1, 2, 3, 7]
+    );
+}
 
 // How many rows in a row are refused as they should be.
 fn refused(desk: &mut Desk, table: &[Row]) -> usize {

@@ -3,9 +3,10 @@ use crate::trouble::Trouble;
 use commands::Command;
 use desks::MOST_BYTES;
 use replicas::{Deed, Replica};
-use std::fs::File;
-use std::io::Read;
 use std::{fs, io};
+
+// One byte more than a letter has at most, so that a longer file is seen to be one.
+const LETTER_READ: u64 = MOST_BYTES as u64 + 1;
 
 pub fn run(rt: &HostRuntime, replica: &mut Replica) -> io::Result<()> {
     for (i, line) in rt.lines(rt.alloc()).enumerate() {
@@ -49,7 +50,7 @@ fn obey(rt: &HostRuntime, replica: &mut Replica, line: &str) -> Result<Option<St
         }
         Command::Send { desk, file } => send(rt, replica, desk, file)?,
         Command::Read { desk, file } => {
-            let letter = letter_in(rt, file).map_err(Trouble::CannotRead)?;
+            let letter = files::read_up_to(rt, file, LETTER_READ).map_err(Trouble::CannotRead)?;
             replica.hear(desk, letter.as_slice())?;
         }
     }
@@ -61,12 +62,4 @@ fn send(rt: &HostRuntime, replica: &mut Replica, desk: u64, file: &str) -> Resul
     let mut bytes = [0; MOST_BYTES];
     let size = replica.letter(desk, &mut bytes)?;
     fs::write(rt, file, &bytes[..size]).map_err(Trouble::CannotWrite)
-}
-
-// What a file holds, up to the first byte that is too much for a letter.
-fn letter_in(rt: &HostRuntime, file: &str) -> io::Result<Vec<u8>> {
-    let mut letter = Vec::new(rt.alloc());
-    let file = File::open(rt, file)?;
-    file.take(MOST_BYTES as u64 + 1).read_to_end(&mut letter)?;
-    Ok(letter)
 }

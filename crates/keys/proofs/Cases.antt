@@ -1,4 +1,4 @@
--- One operation beside a key, case by case: what it adds to the tally, and whether its word is the newest so far.
+-- One operation beside a key, case by case: whether its word is the newest so far.
 use Rattle.std.proofs.Common.{◌≡◌, ℕ, ◌+◌, Bool, true, false, List, [], ◌∷◌, Some, None, Option, sym, refl, ap, ◌∙◌, eq-eqb, ne_eqb, arith}
 use Rattle.std.specs.Option.{MatchOption, IsSomeAnd, option_or, option_to_list}
 use Rattle.std.specs.Bool.{then_some}
@@ -12,21 +12,6 @@ use Rattle.ops.specs.declared.types.Op.{Op}
 use Rattle.keys.specs.Newest.{found_op, newer, newer_under}
 use Rattle.keys.specs.declared.found.Found.{Found}
 use Rattle.keys.proofs.Newness.{newest_under, word_at_newest}
-
-pub count-here : (kd : Kind) (key at n : ℕ) → kd ≡ Add at n → at ≡ key → n ≡ count_of key (kind_of kd)
-unfolding count_of
-count-here kd key at n e f = rw (e, eq-eqb key at (sym f))
-
-pub count-there : (kd : Kind) (key at n : ℕ) → kd ≡ Add at n → (at ≡ key → ⊥) → 0 ≡ count_of key (kind_of kd)
-unfolding count_of
-count-there kd key at n e f = rw (e, ne_eqb key at (λ g. f (sym g)))
-
-pub count_other : (kd : Kind) (key : ℕ) → ((x y : ℕ) → kd ≡ Add x y → ⊥) → 0 ≡ count_of key (kind_of kd)
-unfolding count_of
-count_other (Insert a b) key h = refl
-count_other (Delete a) key h = refl
-count_other (Write a b) key h = refl
-count_other (Add a b) key h = absurd (h a b refl)
 
 pub not_under : (o : Op) (best : Option Found) (key : ℕ) → ((x y : ℕ) → o.kind ≡ Write x y → ⊥) → found_op key best ≡ newer_under key (found_op key best) (op_of o)
 unfolding newer_under

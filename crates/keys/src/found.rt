@@ -1,3 +1,4 @@
+// What is found under a key.
 use ops::OpId;
 
 // A word that was found under a key, with the id of the operation that wrote it.

@@ -17,12 +17,13 @@ use ops::{Kind, Memory, Op};
 pub mod found;
 
 // What a kind of operation adds to a key's tally.
+#[tactic(auto, unfolding(ops::specs::Doc::count_of))]
 fn added_to(kind: Kind, key: u32) -> u32
     ensures value { result ≡ count_of key (kind_of kind) }
     ensures small { result < 4294967296 }
 {
     match kind {
-        Kind::Add { key: at, amount } => { if at == key { amount } else { 0 } }
+        Kind::Add { key: at, amount } if at == key => amount,
         _ => 0,
     }
 }

@@ -1,5 +1,5 @@
 // The log in a desk's memory, its version vector, and its counts.
-ghost use Rattle.std.specs.Prelude.{◌≡◌, ◌+◌, ◌<◌, ◌≤◌, ◌↔◌, IsOk, length};
+ghost use Rattle.std.specs.Prelude.{◌≡◌, ◌<◌, ◌≤◌, ◌↔◌, IsOk};
 ghost use Rattle.std.proofs.lemmas.List.Edits.{sets};
 ghost use Rattle.std.specs.Option.{SomeIff, option_map};
 ghost use Rattle.ops.specs.Layout.{memory_size, version_cell, made_cell, slot, low};

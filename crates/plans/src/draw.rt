@@ -1,5 +1,5 @@
 // Numbers that look random and are the same in every run: a linear congruential generator, of which the upper bits are used.
-ghost use Rattle.std.specs.Prelude.{◌≡◌, ◌+◌, ◌/◌, ◌%◌, ◌^◌, ◌<◌, ◌≤◌, true, false, ◌≢◌};
+ghost use Rattle.std.specs.Prelude.{◌≡◌, ◌/◌, ◌%◌, ◌^◌, ◌<◌, ◌≤◌, true, false, ◌≢◌};
 ghost use Rattle.plans.specs.Draws.{next_state, first_state};
 
 #[derive(Clone, Copy, Debug, PartialEq, Eq)]

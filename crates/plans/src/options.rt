@@ -111,11 +111,3 @@ impl Options {
         self.desks.clamp(FEWEST_DESKS, MOST_DESKS)
     }
 }
-
-impl Default for Options {
-    ghost is_default = { λ options. options ≡ standard };
-
-    fn default() -> Options {
-        Options::standard()
-    }
-}

@@ -89,19 +89,22 @@ impl Stage {
         Ok(self.room.play(self.heap, item)?)
     }
 
+    // Plays an item of which nothing is shown; it is refused, or noted for the picture.
+    fn happens(&mut self, desk: u64, item: Item, event: Event) -> Result<Said, Trouble> {
+        if let Err(refusal) = self.play(item)? {
+            return self.refused(desk, refusal);
+        }
+        self.events.push(event)?;
+        Ok(Said::Nothing)
+    }
+
     fn deed(&mut self, desk: u64, command: Command, deed: Deed) -> Result<Said, Trouble> {
         let label = format!(in self.heap; "{command}")?;
         let item = Item::At {
             desk,
             command: simulator::Command::Do(deed),
         };
-        match self.play(item)? {
-            Err(refusal) => self.refused(desk, refusal),
-            Ok(_) => {
-                self.events.push(Event::Deed { desk, label })?;
-                Ok(Said::Nothing)
-            }
-        }
+        self.happens(desk, item, Event::Deed { desk, label })
     }
 
     fn ask(&mut self, desk: u64, command: simulator::Command) -> Result<Said, Trouble> {
@@ -162,13 +165,7 @@ impl Stage {
             // a letter of others, or for others
             return self.refused(desk, Refusal::Malformed);
         }
-        match self.play(Item::Comes { letter })? {
-            Err(refusal) => self.refused(desk, refusal),
-            Ok(_) => {
-                self.events.push(Event::Came { letter })?;
-                Ok(Said::Nothing)
-            }
-        }
+        self.happens(desk, Item::Comes { letter }, Event::Came { letter })
     }
 
     fn meet(&mut self, one: u64, other: u64) -> Result<Said, Trouble> {

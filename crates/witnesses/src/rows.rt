@@ -6,7 +6,7 @@ use papers::Name;
 use simulator::Room;
 use std::array;
 
-const DESKS: usize = 32;
+const DESKS: usize = desks::DESKS as usize;
 
 #[derive(Clone, Copy)]
 pub struct Row {

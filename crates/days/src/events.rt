@@ -6,7 +6,6 @@ use desks::Refusal;
 use papers::{Command, Deed};
 use plans::count;
 use simulator::{Answer, Command as Told, Item};
-use std::alloc::AllocError;
 use witnesses::{KEYS, Row, Sight, Stop, TEXT_IS_KNOWN, Witness, expect, key_shown};
 
 // What comes of an item in the room.
@@ -161,7 +160,7 @@ impl Day {
 
     // A letter comes, for the first time or again.
     pub(crate) fn read(&mut self, letter: u64) -> Result<(), Stop> {
-        let mail = self.post.mails.get(letter as usize).ok_or(Stop::Missing)?;
+        let mail = self.post.mail(letter).ok_or(Stop::Missing)?;
         let (desk, from) = (mail.to, mail.from);
         self.lines.push(Line::Reads { desk, from, letter })?;
         self.plays(desk, Item::Comes { letter }, Sight::Done)?;
@@ -172,7 +171,7 @@ impl Day {
 
     // What was known is known, what is new the writer knew, and where it knew few, all that it knew is known.
     fn takes_in(&mut self, desk: u64, letter: u64) -> Result<(), Stop> {
-        let mail = self.post.mails.get(letter as usize).ok_or(Stop::Missing)?;
+        let mail = self.post.mail(letter).ok_or(Stop::Missing)?;
         let witness = self.witnesses.get_mut(desk as usize).ok_or(Stop::Missing)?;
         let row = Row::at(&self.room, desk);
         expect_no_less(desk, &witness.row, &row)?;

@@ -31,6 +31,11 @@ impl Post {
         }
     }
 
+    // What a letter should bring, by its number.
+    pub fn mail(&self, letter: u64) -> Option<&Mail> {
+        self.mails.get(letter as usize)
+    }
+
     // How many letters are still to come.
     pub fn waiting(&self) -> usize {
         self.waiting.len()

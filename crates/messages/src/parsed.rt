@@ -1,4 +1,4 @@
-// Bytes that were found to be a letter, and what stands in them.
+// Bytes as a letter: whether they are one, and what stands in them.
 ghost use Rattle.std.specs.Prelude.{◌≡◌, ◌+◌, ◌*◌, length, IfSome, is_some, ◌==◌};
 ghost use Rattle.ops.specs.Values.{desk_of};
 ghost use Rattle.messages.specs.Bytes.{byte, number_at};

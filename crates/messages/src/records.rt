@@ -1,8 +1,7 @@
 // An operation as a record of 16 bytes, and back.
 ghost use Rattle.std.specs.Prelude.{◌≡◌, ◌+◌, ◌≤◌, length};
 ghost use Rattle.std.proofs.Math.Seq.{paste};
-ghost use Rattle.ops.specs.Values.{desk_of, op_of};
-ghost use Rattle.ops.specs.Values.{tag_of};
+ghost use Rattle.ops.specs.Values.{desk_of, op_of, tag_of};
 ghost use Rattle.messages.specs.Records.{record_of, record_bytes, op_from, is_record};
 
 use crate::bytes::{number_at, put_number};

@@ -2,7 +2,7 @@
 use days::{Day, Options};
 use papers::{Command, Paper};
 use replicas::Deed;
-use simulator::{Item, Room};
+use simulator::{Answer, Item, Room};
 use std::alloc::{AllocError, Global};
 use std::test::Fail;
 use witnesses::{Sight, compare_key};
@@ -65,7 +65,7 @@ fn a_difference_is_found(rt: HostRuntime) -> Result<(), Fail> {
         desk: 0,
         command: told,
     };
-    room.play(heap, item)?;
+    assert_eq!(rt; room.play(heap, item)?, Ok(Answer::Done));
     paper.hear(paper.deed(0, add).map_err(|_refusal| "refused")?)?;
     assert!(rt;
         compare_key(heap, &mut room, 0, &paper, 1)?.is_none(),
